@@ -1,13 +1,18 @@
 //! The oracle: the unchanged Rust passes of google/pdl, run on tables of 40-byte records.
 
 pub mod answer;
+pub mod cases;
 pub mod convert;
+pub mod coverage;
 pub mod fault;
+pub mod generate;
 pub mod groups;
 pub mod layout;
 pub mod print;
+pub mod random;
 pub mod record;
 pub mod reply;
+pub mod verify;
 
 /// The syntax tree of google/pdl, included as it was published.
 #[allow(dead_code, clippy::all)]

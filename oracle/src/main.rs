@@ -1,12 +1,150 @@
 //! The commands of the oracle.
 
 use oracle::answer::{answer, on_deep_stack, PROGRAM_BUFFER};
+use oracle::cases::case_text;
+use oracle::coverage::{Coverage, WANTED};
+use oracle::generate::generate;
 use oracle::print::printed;
-use std::io::Read;
+use oracle::verify::{silence_panics, verify, Verified};
+use std::io::{Read, Write};
+use std::process::ExitCode;
 
-fn main() {
+const USAGE: &str = "usage:
+  oracle answer [--table-len N] [--fault-len N]    the answer to the table on standard input
+  oracle generate SEED                             the bytes of a generated table
+  oracle coverage COUNT [--seed S]                 how often generated cases reach each reply and code
+  oracle verify COUNT [--seed S]                   the Rust panics exactly on Unfit and Loose
+  oracle cases COUNT MAXRECORDS [--seed S]         small cases as text";
+
+fn main() -> ExitCode {
+    let arguments: Vec<String> = std::env::args().skip(1).collect();
+    match on_deep_stack(|| run(&arguments)) {
+        Ok(code) => code,
+        Err(trouble) => {
+            eprintln!("{trouble}");
+            ExitCode::from(2)
+        }
+    }
+}
+
+/// Plain arguments, and the numbers of the options.
+struct Arguments {
+    plain: Vec<String>,
+    options: Vec<(String, u64)>,
+}
+
+impl Arguments {
+    fn parse(arguments: &[String], allowed: &[&str]) -> Result<Arguments, String> {
+        let mut parsed = Arguments { plain: Vec::new(), options: Vec::new() };
+        let mut rest = arguments.iter();
+        while let Some(argument) = rest.next() {
+            if !argument.starts_with("--") {
+                parsed.plain.push(argument.clone());
+            } else if allowed.contains(&argument.as_str()) {
+                let value = rest.next().ok_or(format!("{argument} wants a number\n{USAGE}"))?;
+                parsed.options.push((argument.clone(), number(value)?));
+            } else {
+                return Err(format!("unknown option {argument}\n{USAGE}"));
+            }
+        }
+        Ok(parsed)
+    }
+
+    fn option(&self, name: &str, usual: u64) -> u64 {
+        let found = self.options.iter().rev().find(|(option, _)| option == name);
+        found.map_or(usual, |&(_, value)| value)
+    }
+
+    fn expect<const N: usize>(&self) -> Result<[&str; N], String> {
+        let plain: Vec<&str> = self.plain.iter().map(String::as_str).collect();
+        plain.try_into().map_err(|_| USAGE.to_owned())
+    }
+}
+
+fn number(text: &str) -> Result<u64, String> {
+    text.parse().map_err(|_| format!("`{text}` is no number\n{USAGE}"))
+}
+
+fn run(arguments: &[String]) -> Result<ExitCode, String> {
+    let (command, rest) = arguments.split_first().ok_or(USAGE)?;
+    match command.as_str() {
+        "answer" => run_answer(&Arguments::parse(rest, &["--table-len", "--fault-len"])?),
+        "generate" => run_generate(&Arguments::parse(rest, &[])?),
+        "coverage" => run_coverage(&Arguments::parse(rest, &["--seed"])?),
+        "verify" => run_verify(&Arguments::parse(rest, &["--seed"])?),
+        "cases" => run_cases(&Arguments::parse(rest, &["--seed"])?),
+        _ => Err(format!("unknown command `{command}`\n{USAGE}")),
+    }
+}
+
+fn print_bytes(bytes: &[u8]) -> Result<ExitCode, String> {
+    let written = std::io::stdout().write_all(bytes).and_then(|()| std::io::stdout().flush());
+    written.map(|()| ExitCode::SUCCESS).map_err(|error| error.to_string())
+}
+
+fn run_answer(arguments: &Arguments) -> Result<ExitCode, String> {
+    let [] = arguments.expect()?;
+    let table_len = arguments.option("--table-len", PROGRAM_BUFFER as u64) as usize;
+    let fault_len = arguments.option("--fault-len", PROGRAM_BUFFER as u64) as usize;
     let mut input = Vec::new();
-    std::io::stdin().read_to_end(&mut input).expect("standard input");
-    let text = on_deep_stack(|| printed(&answer(&input, PROGRAM_BUFFER), PROGRAM_BUFFER));
-    print!("{text}");
+    std::io::stdin().read_to_end(&mut input).map_err(|error| error.to_string())?;
+    print_bytes(printed(&answer(&input, table_len), fault_len).as_bytes())
+}
+
+fn run_generate(arguments: &Arguments) -> Result<ExitCode, String> {
+    let [seed] = arguments.expect()?;
+    print_bytes(&generate(number(seed)?).input)
+}
+
+fn run_coverage(arguments: &Arguments) -> Result<ExitCode, String> {
+    let [count] = arguments.expect()?;
+    let first = arguments.option("--seed", 0);
+    let mut coverage = Coverage::default();
+    for seed in first..first.saturating_add(number(count)?) {
+        let case = generate(seed);
+        coverage.count(&answer(&case.input, case.table_len));
+    }
+    print!("{}", coverage.text());
+    let under = coverage.under(WANTED);
+    if under.is_empty() {
+        println!("each reply and each code in at least {WANTED} tables");
+        return Ok(ExitCode::SUCCESS);
+    }
+    println!("in fewer than {WANTED} tables: {}", under.join(", "));
+    Ok(ExitCode::FAILURE)
+}
+
+fn run_verify(arguments: &Arguments) -> Result<ExitCode, String> {
+    let [count] = arguments.expect()?;
+    let first = arguments.option("--seed", 0);
+    silence_panics();
+    let mut sum = Verified::default();
+    for seed in first..first.saturating_add(number(count)?) {
+        let found =
+            verify(&generate(seed).input).map_err(|wrong| format!("seed {seed}: {wrong}"))?;
+        sum.unfit += found.unfit;
+        sum.loose += found.loose;
+        sum.calm += found.calm;
+        sum.with_empty_groups += found.with_empty_groups;
+    }
+    println!("panics of inline_groups, each answered Unfit: {}", sum.unfit);
+    println!("panics of desugar_flags, each answered Loose: {}", sum.loose);
+    println!("tables without panic, each answered otherwise: {}", sum.calm);
+    println!(
+        "tables also inlined with their empty groups, no difference: {}",
+        sum.with_empty_groups
+    );
+    Ok(ExitCode::SUCCESS)
+}
+
+fn run_cases(arguments: &Arguments) -> Result<ExitCode, String> {
+    let [count, most_records] = arguments.expect()?;
+    let first = arguments.option("--seed", 0);
+    let most_records = number(most_records)? as usize;
+    let mut out = std::io::stdout().lock();
+    for seed in first..first.saturating_add(number(count)?) {
+        let text = case_text(seed, most_records);
+        out.write_all(text.as_bytes()).map_err(|error| error.to_string())?;
+    }
+    Ok(ExitCode::SUCCESS)
 }

@@ -1,0 +1,103 @@
+//! Checks of the oracle itself: the Rust panics exactly where Unfit or Loose is answered.
+
+use crate::analyzer::passes;
+use crate::answer::answer;
+use crate::ast::{Decl, DeclDesc, FieldDesc, File};
+use crate::convert::{to_file, to_table};
+use crate::groups;
+use crate::layout;
+use crate::reply::Reply;
+use std::collections::HashMap;
+use std::panic::{catch_unwind, AssertUnwindSafe};
+
+/// Beyond this many group fields walked, the Rust is called only without the empty groups.
+const MOST_WALKS: u64 = 20_000;
+
+/// What was verified on one table.
+#[derive(Clone, Copy, Debug, Default, PartialEq, Eq)]
+pub struct Verified {
+    /// `inline_groups` panicked, as Unfit says.
+    pub unfit: usize,
+    /// `desugar_flags` panicked, as Loose says.
+    pub loose: usize,
+    /// Neither panicked.
+    pub calm: usize,
+    /// `inline_groups` was also called with the empty groups, and made the same file.
+    pub with_empty_groups: usize,
+}
+
+/// Silences the panics that `verify` provokes and catches.
+pub fn silence_panics() {
+    std::panic::set_hook(Box::new(|_| ()));
+}
+
+/// Checks one table, or says what is wrong. Call it on a deep stack.
+pub fn verify(input: &[u8]) -> Result<Verified, String> {
+    let mut verified = Verified::default();
+    let Ok(table) = layout::check(input) else { return Ok(verified) };
+    let file = to_file(&table);
+    if to_table(&file) != table {
+        return Err("the table does not survive the conversion".to_owned());
+    }
+    let Ok(listed) = passes::check(&file) else { return Ok(verified) };
+    let reply = answer(input, usize::MAX).reply;
+    if reply == Reply::Swollen {
+        return Ok(verified);
+    }
+    let finite = groups::without_empty_groups(&listed, &groups::sizes(&listed));
+    verify_empty_groups(&listed, &finite, &mut verified)?;
+    let panics = panics_of(&finite);
+    let wanted = (matches!(reply, Reply::Unfit(_)), matches!(reply, Reply::Loose(_)));
+    if panics != wanted {
+        return Err(format!("{} but panics (inline, flags) are {panics:?}", reply.line()));
+    }
+    verified.unfit = usize::from(panics.0);
+    verified.loose = usize::from(panics.1);
+    verified.calm = usize::from(panics == (false, false));
+    Ok(verified)
+}
+
+/// Whether `inline_groups` panics, and whether `desugar_flags` panics after it.
+fn panics_of(finite: &File) -> (bool, bool) {
+    match catch_unwind(AssertUnwindSafe(|| passes::inline(finite))) {
+        Err(_) => (true, false),
+        Ok(mut inlined) => {
+            (false, catch_unwind(AssertUnwindSafe(|| passes::desugar(&mut inlined))).is_err())
+        }
+    }
+}
+
+/// Checks that leaving the empty groups out changes nothing, where walking them ends soon.
+fn verify_empty_groups(listed: &File, finite: &File, sum: &mut Verified) -> Result<(), String> {
+    if walks(listed) > MOST_WALKS || to_table(listed) == to_table(finite) {
+        return Ok(());
+    }
+    let written =
+        |file: &File| catch_unwind(AssertUnwindSafe(|| to_table(&passes::inline(file)))).ok();
+    if written(listed) != written(finite) {
+        return Err("leaving the empty groups out changes the inlined file".to_owned());
+    }
+    sum.with_empty_groups = 1;
+    Ok(())
+}
+
+/// The group fields that `inline_groups` would walk, saturating.
+fn walks(listed: &File) -> u64 {
+    let mut by_group: HashMap<&str, u64> = HashMap::new();
+    let mut sum = 0_u64;
+    for decl in &listed.declarations {
+        let own = decl.fields().fold(0, |sum: u64, field| match &field.desc {
+            FieldDesc::Group { group_id, .. } => {
+                sum.saturating_add(1 + by_group[group_id.as_str()])
+            }
+            _ => sum,
+        });
+        match (&decl.desc, Decl::id(decl)) {
+            (DeclDesc::Group { .. }, Some(id)) => {
+                by_group.insert(id, own.min(u64::MAX / 2));
+            }
+            _ => sum = sum.saturating_add(own),
+        }
+    }
+    sum
+}
