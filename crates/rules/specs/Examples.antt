@@ -134,6 +134,10 @@ faulty rs pass fs =
       expected = reply (answered (Faulty pass (length fs)) buffer (filled (faultsBytes fs)));
     }
 
+-- the same by bytes: the input, the reply, and what each buffer starts with afterwards
+in-bytes : List ℕ → Reply → List ℕ → List ℕ → Case
+in-bytes i r t f = record { given = reply (answer i buffer buffer); expected = reply (answered r (filled t) (filled f)) }
+
 number-is : ℕ → ℕ → Case
 number-is a b = record { given = number a; expected = number b }
 
@@ -202,6 +206,16 @@ array-padding-padding =
 packet-and-test : List Record
 packet-and-test = decl kind.packet 10 1 ∷ rec kind.test 0 0 10 0 0 0 0 2 ∷ []
 
+packet-bytes : List ℕ
+packet-bytes =
+    4 ∷ 0 ∷ 10 ∷ 0 ∷ 0 ∷ 0 ∷ 0 ∷ 0 ∷ 0 ∷ 0 ∷ 0 ∷ 0 ∷ 0 ∷ 0 ∷ 0 ∷ 0 ∷ 0 ∷ 0 ∷ 0 ∷ 0
+    ∷ 0 ∷ 0 ∷ 0 ∷ 0 ∷ 57 ∷ 48 ∷ 0 ∷ 0 ∷ 1 ∷ 2 ∷ 0 ∷ 0 ∷ 3 ∷ 4 ∷ 0 ∷ 0 ∷ 0 ∷ 0 ∷ 0 ∷ 0 ∷ []
+
+test-bytes : List ℕ
+test-bytes =
+    7 ∷ 0 ∷ 0 ∷ 0 ∷ 10 ∷ 0 ∷ 0 ∷ 0 ∷ 0 ∷ 0 ∷ 0 ∷ 0 ∷ 0 ∷ 0 ∷ 0 ∷ 0 ∷ 0 ∷ 0 ∷ 0 ∷ 0
+    ∷ 0 ∷ 0 ∷ 0 ∷ 0 ∷ 0 ∷ 0 ∷ 0 ∷ 0 ∷ 0 ∷ 0 ∷ 0 ∷ 0 ∷ 0 ∷ 0 ∷ 0 ∷ 0 ∷ 0 ∷ 0 ∷ 0 ∷ 0 ∷ []
+
 cases : List Case
 cases =
     -- T1
@@ -228,14 +242,18 @@ cases =
     -- T8: two faults, the second pointing at the second
     ∷ faulty one-name-thrice 1
     (double 1 (decl kind.enum 10 2) (decl kind.packet 10 1) ∷ double 1 (decl kind.group 10 3) (decl kind.enum 10 2) ∷ [])
+    ∷ in-bytes (encode one-name-thrice) (Faulty 1 2) []
+    (1 ∷ 0 ∷ 1 ∷ 0 ∷ 2 ∷ 0 ∷ 0 ∷ 0 ∷ 2 ∷ 0 ∷ 0 ∷ 0 ∷ 1 ∷ 0 ∷ 0 ∷ 0 ∷ 1 ∷ 0 ∷ 0 ∷ 0
+    ∷ 1 ∷ 0 ∷ 1 ∷ 0 ∷ 3 ∷ 0 ∷ 0 ∷ 0 ∷ 3 ∷ 0 ∷ 0 ∷ 0 ∷ 2 ∷ 0 ∷ 0 ∷ 0 ∷ 2 ∷ 0 ∷ 0 ∷ 0 ∷ [])
     -- T9: one 39
     ∷ faulty array-padding-padding 9 (single 39 (decl kind.padding 0 4) ∷ [])
     -- T10
     ∷ accepted packet-and-test (decl kind.packet 10 1 ∷ [])
+    ∷ in-bytes (packet-bytes ++ test-bytes) (Accepted 1) packet-bytes []
     -- T11: one 41
     ∷ faulty three-ranges 4 (double 41 (decl kind.tagRange 12 3) (decl kind.tagRange 11 2) ∷ [])
     ∷ []
 
 table-cases : map (λ (c : Case). c .given) cases ≡ map (λ (c : Case). c .expected) cases
-unfolding when numberAt bytes records decode at recordBytes encode nearest first each firstAfter firstWithin declNamed foundInside memberCount rows rowAmong rowOf foundKind kindBefore soundAt layout faultBytes faultsBytes repeated logged digits bitWidth scalarMax redeclared pass1At pass1 walk enter visit visitAll groupReference typeReference parentReference testReference fieldReference fieldReferences ownReference references rootReference rootReferences visited pass2 order declRecords allRecords ordered pass3At pass3 insert inserted sorted again valueFaults heldAt held rangeFaults rangeFound innerFaults defaultFaults tagFaults tagsFaults ranges overlap overlaps enumFaults pass4At pass4 sizeAgain misnamed sizeTarget pass5At pass5 enumFault pass6At pass6 secondPayload missingPayload pass7At pass7 redundantSize pass8At pass8 notAfterArray pass9At pass9 lookup under inlinedRecord afterGroup constraints groupFields inlinedField inlinedFields expand inlinedAt inlined firstUnfit firstLoose membersStart entries conditionAt entriesAt withEntries desugaredAt desugared numbered laterFaults faultsOf fitted byLoose byUnfit bySize byPass judged byLayout answer ascii decimals listing nameOf replyLine recordLine faultLine recordLines faultLines detail printed accepted faulty number-is prints soft-stroke soft-stroke-out soft-stroke-printed array-of-itself fixed-in-8 range-5-5 three-ranges one-name-thrice array-padding-padding packet-and-test cases
+unfolding when numberAt bytes records decode at recordBytes encode nearest first each firstAfter firstWithin declNamed foundInside memberCount rows rowAmong rowOf foundKind kindBefore soundAt layout faultBytes faultsBytes repeated logged digits bitWidth scalarMax redeclared pass1At pass1 walk enter visit visitAll groupReference typeReference parentReference testReference fieldReference fieldReferences ownReference references rootReference rootReferences visited pass2 order declRecords allRecords ordered pass3At pass3 insert inserted sorted again valueFaults heldAt held rangeFaults rangeFound innerFaults defaultFaults tagFaults tagsFaults ranges overlap overlaps enumFaults pass4At pass4 sizeAgain misnamed sizeTarget pass5At pass5 enumFault pass6At pass6 secondPayload missingPayload pass7At pass7 redundantSize pass8At pass8 notAfterArray pass9At pass9 lookup under inlinedRecord afterGroup constraints groupFields inlinedField inlinedFields expand inlinedAt inlined firstUnfit firstLoose membersStart entries conditionAt entriesAt withEntries desugaredAt desugared numbered laterFaults faultsOf fitted byLoose byUnfit bySize byPass judged byLayout answer ascii decimals listing nameOf replyLine recordLine faultLine recordLines faultLines detail printed accepted faulty in-bytes number-is prints soft-stroke soft-stroke-out soft-stroke-printed array-of-itself fixed-in-8 range-5-5 three-ranges one-name-thrice array-padding-padding packet-and-test packet-bytes test-bytes cases
 table-cases = refl
