@@ -1,0 +1,110 @@
+// The fault buffer: the first faults, as many whole ones as fit, and a total that counts all.
+use rules::Fault;
+use rules::Record;
+use rules::Tally;
+ghost use mathlib.Core.Path.{_≡_};
+ghost use Prim.Native.Nat.{_+_, _^_, _<_};
+ghost use Rattle.rules.specs.Faults.{faultBytes, single, double, log};
+ghost use Rattle.faults.specs.Notes.{none, findings, noted, notedAll};
+
+// The length of a fault in bytes.
+pub const FAULT_LENGTH: usize = 20;
+
+// What is found at a place: at most one fault.
+pub enum Finding {
+    One(Fault),
+    Fine,
+}
+
+// No fault yet.
+pub fn no_faults() -> Tally
+    ensures { λ r. ⌜ r ≡ none ⌝ }
+{
+    Tally { kept: 0, total: 0 }
+}
+
+// A fault at r.
+pub fn single(code: u16, r: Record) -> Fault
+    ensures { λ f. ⌜ f ≡ single code r ⌝ }
+{
+    Fault {
+        code,
+        secondary: 0,
+        start: r.start,
+        end: r.end,
+        start2: 0,
+        end2: 0,
+    }
+}
+
+// A fault at r with the secondary s.
+pub fn double(code: u16, r: Record, s: Record) -> Fault
+    ensures { λ f. ⌜ f ≡ double code r s ⌝ }
+{
+    Fault {
+        code,
+        secondary: 1,
+        start: r.start,
+        end: r.end,
+        start2: s.start,
+        end2: s.end,
+    }
+}
+
+// The bytes of a fault.
+fn bytes_of(f: Fault) -> [u8; 20]
+    ensures { λ r. ⌜ r ≡ faultBytes f ⌝ }
+{
+    [
+        (f.code % 256) as u8,
+        (f.code / 256 % 256) as u8,
+        (f.secondary % 256) as u8,
+        (f.secondary / 256 % 256) as u8,
+        (f.start % 256) as u8,
+        (f.start / 256 % 256) as u8,
+        (f.start / 256 / 256 % 256) as u8,
+        (f.start / 256 / 256 / 256 % 256) as u8,
+        (f.end % 256) as u8,
+        (f.end / 256 % 256) as u8,
+        (f.end / 256 / 256 % 256) as u8,
+        (f.end / 256 / 256 / 256 % 256) as u8,
+        (f.start2 % 256) as u8,
+        (f.start2 / 256 % 256) as u8,
+        (f.start2 / 256 / 256 % 256) as u8,
+        (f.start2 / 256 / 256 / 256 % 256) as u8,
+        (f.end2 % 256) as u8,
+        (f.end2 / 256 % 256) as u8,
+        (f.end2 / 256 / 256 % 256) as u8,
+        (f.end2 / 256 / 256 / 256 % 256) as u8,
+    ]
+}
+
+// One fault more: kept where a whole one still fits, and counted.
+pub fn note(t: Tally, buffer: &mut [u8], f: Fault) -> Tally
+    requires { ⌜ t .total + 1 < 2 ^ 64 ⌝ }
+    ensures { λ r. ⌜ log r (now (buffer .exit)) ≡ noted (log t (now (buffer .entry))) f ⌝ }
+{
+    let kept = t.kept;
+    let total = t.total + 1;
+    if kept < buffer.len() / FAULT_LENGTH {
+        let bytes = bytes_of(f);
+        store::write(buffer, FAULT_LENGTH * kept, &bytes);
+        Tally {
+            kept: kept + 1,
+            total,
+        }
+    } else {
+        Tally { kept, total }
+    }
+}
+
+// What was found at a place, noted.
+pub fn note_found(t: Tally, buffer: &mut [u8], found: Finding) -> Tally
+    requires { ⌜ t .total + 1 < 2 ^ 64 ⌝ }
+    ensures { λ r. ⌜ log r (now (buffer .exit)) ≡ notedAll (log t (now (buffer .entry))) (findings found) ⌝ }
+{
+    match found {
+        Finding::One(f) => note(t, buffer, f),
+        Finding::Fine => t,
+    }
+}

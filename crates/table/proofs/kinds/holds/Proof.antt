@@ -1,0 +1,35 @@
+-- `table::kinds::holds` meets its contract: each arm is a clause of the definition. Assumes nothing.
+use borrow.Author.Needs.{needs}
+use Rattle.table.proofs.kinds.holds.Statement.{statement}
+use Rattle.table.proofs.kinds.holds.Tie as tie
+
+pub holds-spec : {M : Type 1} → statement M
+holds-spec =
+    tie.close
+    (tie.spec
+    (λ c. search needs)
+    (λ c. search needs)
+    (λ c. search needs)
+    (λ c. search needs)
+    (λ c. search needs)
+    (λ c. search needs)
+    (λ c. search needs)
+    (λ c. search needs)
+    (λ c. search needs)
+    (λ c. search needs)
+    (λ c. search needs)
+    (λ c. search needs)
+    (λ c. search needs)
+    (λ c. rw (c .enum-told .given .1))
+    (λ c. rw (c .before .before .x .given .1))
+    (λ c. rw (c .enum-told2 .given .1))
+    (λ c. rw (c .before .before .x2 .given .1))
+    (λ c. rw (c .before .before .x3 .given .1))
+    (λ c. rw (c .before .before .x4 .given .1))
+    (λ c. rw (c .before .before .x5 .given .1))
+    (λ c. rw (c .enum-told3 .given .1))
+    (λ c. rw (c .before .before .x6 .given .1))
+    (λ c. rw (c .before .before .x7 .given .1))
+    (λ c. rw (c .before .before .x8 .given .1))
+    (λ c. rw (c .enum-told4 .given .1))
+    (λ c. rw (c .enum-told5 .given .1)))

@@ -1,0 +1,56 @@
+// Searches among the places of a table.
+use crate::kinds::holds;
+use rules::Found;
+use rules::Test;
+ghost use mathlib.Core.Path.{_≡_};
+ghost use Rattle.rules.specs.Table.{decode};
+ghost use Rattle.rules.specs.Places.{nearest, holdsAt, firstFrom, firstWithin, declNamed};
+
+// The nearest place below p.
+pub fn nearest(t: &[u8], x: Test, p: usize) -> Found
+    ensures { λ r. ⌜ r ≡ nearest (holdsAt (decode (now (t .entry))) x) p ⌝ }
+{
+    let mut i = p;
+    while 0 < i {
+        let q = i - 1;
+        let r = crate::at(t, q);
+        if holds(x, r) {
+            return Found::At(q);
+        }
+        i = q;
+    }
+    Found::Nothing
+}
+
+// The first place from a on.
+pub fn first(t: &[u8], x: Test, a: usize) -> Found
+    ensures { λ r. ⌜ r ≡ firstFrom (decode (now (t .entry))) x a ⌝ }
+{
+    let n = crate::count(t);
+    let mut i = a;
+    while i < n {
+        let r = crate::record(t, i);
+        if holds(x, r) {
+            return Found::At(i);
+        }
+        i += 1;
+    }
+    Found::Nothing
+}
+
+// The first place of the declaration that p stands in, or of what follows it.
+pub fn first_within(t: &[u8], x: Test, p: usize) -> Found
+    ensures { λ r. ⌜ r ≡ firstWithin (decode (now (t .entry))) x p ⌝ }
+{
+    match nearest(t, Test::Decl, p) {
+        Found::At(d) => first(t, x, d + 1),
+        Found::Nothing => Found::Nothing,
+    }
+}
+
+// The declaration of a name.
+pub fn decl_named(t: &[u8], name: u16) -> Found
+    ensures { λ r. ⌜ r ≡ declNamed (decode (now (t .entry))) name ⌝ }
+{
+    first(t, Test::DeclNamed(name), 0)
+}
