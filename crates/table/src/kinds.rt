@@ -1,8 +1,8 @@
 // Groups of kinds, and what a search looks for.
 use rules::Record;
-use rules::Test;
+use rules::Target;
 ghost use mathlib.Core.Path.{_≡_};
-ghost use Rattle.rules.specs.Kinds.{isDecl, isNamedDecl, isPacketOrStruct, holdsFields, isField, isNamed, isSize, isSizeOrCount, isPayload, isTag, isValue};
+ghost use Rattle.rules.specs.Kinds.{isDecl, isNamedDecl, isPacketOrStruct, holdsFields, isField, isNamedField, isSize, isSizeOrCount, isPayload, isTag, isValue};
 ghost use Rattle.rules.specs.Places.{isFieldNamed, holds};
 
 pub fn is_decl(k: u8) -> bool
@@ -35,8 +35,8 @@ pub fn is_field(k: u8) -> bool
     (20 <= k) & (k <= 34)
 }
 
-pub fn is_named(k: u8) -> bool
-    ensures { λ r. ⌜ r ≡ isNamed k ⌝ }
+pub fn is_named_field(k: u8) -> bool
+    ensures { λ r. ⌜ r ≡ isNamedField k ⌝ }
 {
     (30 <= k) & (k <= 33)
 }
@@ -72,27 +72,27 @@ pub fn is_value(k: u8) -> bool
 }
 
 // Whether r is what the search looks for.
-pub fn holds(x: Test, r: Record) -> bool
+pub fn holds(x: Target, r: Record) -> bool
     ensures { λ b. ⌜ b ≡ holds x r ⌝ }
 {
     let k = r.kind;
     let decl = (1 <= k) & (k <= 7);
     let named = (30 <= k) & (k <= 33);
     match x {
-        Test::Decl => decl,
-        Test::DeclNamed(n) => ((1 <= k) & (k <= 6)) & (r.name == n),
-        Test::FieldOrDecl => decl | ((20 <= k) & (k <= 34)),
-        Test::NameOrDecl(n) => decl | (named & (r.name == n)),
-        Test::SizeOrDecl(n) => decl | (((22 <= k) & (k <= 23)) & (r.second == n)),
-        Test::ElementSizeOrDecl(n) => decl | ((k == 24) & (r.second == n)),
-        Test::SizedOrDecl(n) => {
+        Target::Decl => decl,
+        Target::DeclNamed(n) => ((1 <= k) & (k <= 6)) & (r.name == n),
+        Target::FieldOrDecl => decl | ((20 <= k) & (k <= 34)),
+        Target::NameOrDecl(n) => decl | (named & (r.name == n)),
+        Target::SizeOrDecl(n) => decl | (((22 <= k) & (k <= 23)) & (r.second == n)),
+        Target::ElementSizeOrDecl(n) => decl | ((k == 24) & (r.second == n)),
+        Target::SizedOrDecl(n) => {
             decl | ((named & (r.name == n)) | (((k == 26) & (n == 1)) | ((k == 25) & (n == 2))))
         }
-        Test::PayloadOrDecl => decl | ((25 <= k) & (k <= 26)),
-        Test::TagOrDecl(n) => decl | (((40 <= k) & (k <= 43)) & (r.name == n)),
-        Test::OuterTagOrDecl(n) => decl | (((k == 40) | ((k == 41) | (k == 43))) & (r.name == n)),
-        Test::ValueOrDecl(v) => decl | (((k == 40) | (k == 42)) & (r.one == v)),
-        Test::DefaultOrDecl => decl | (k == 43),
-        Test::Range => k == 41,
+        Target::PayloadOrDecl => decl | ((25 <= k) & (k <= 26)),
+        Target::TagOrDecl(n) => decl | (((40 <= k) & (k <= 43)) & (r.name == n)),
+        Target::OuterTagOrDecl(n) => decl | (((k == 40) | ((k == 41) | (k == 43))) & (r.name == n)),
+        Target::ValueOrDecl(v) => decl | (((k == 40) | (k == 42)) & (r.one == v)),
+        Target::DefaultOrDecl => decl | (k == 43),
+        Target::Range => k == 41,
     }
 }

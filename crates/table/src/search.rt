@@ -1,13 +1,13 @@
 // Searches among the places of a table.
 use crate::kinds::holds;
 use rules::Found;
-use rules::Test;
+use rules::Target;
 ghost use mathlib.Core.Path.{_≡_};
 ghost use Rattle.rules.specs.Table.{decode};
 ghost use Rattle.rules.specs.Places.{nearest, holdsAt, firstFrom, firstWithin, declNamed};
 
 // The nearest place below p.
-pub fn nearest(t: &[u8], x: Test, p: usize) -> Found
+pub fn nearest(t: &[u8], x: Target, p: usize) -> Found
     ensures { λ r. ⌜ r ≡ nearest (holdsAt (decode (now (t .entry))) x) p ⌝ }
 {
     let mut i = p;
@@ -23,7 +23,7 @@ pub fn nearest(t: &[u8], x: Test, p: usize) -> Found
 }
 
 // The first place from a on.
-pub fn first(t: &[u8], x: Test, a: usize) -> Found
+pub fn first(t: &[u8], x: Target, a: usize) -> Found
     ensures { λ r. ⌜ r ≡ firstFrom (decode (now (t .entry))) x a ⌝ }
 {
     let n = crate::count(t);
@@ -39,10 +39,10 @@ pub fn first(t: &[u8], x: Test, a: usize) -> Found
 }
 
 // The first place of the declaration that p stands in, or of what follows it.
-pub fn first_within(t: &[u8], x: Test, p: usize) -> Found
+pub fn first_within(t: &[u8], x: Target, p: usize) -> Found
     ensures { λ r. ⌜ r ≡ firstWithin (decode (now (t .entry))) x p ⌝ }
 {
-    match nearest(t, Test::Decl, p) {
+    match nearest(t, Target::Decl, p) {
         Found::At(d) => first(t, x, d + 1),
         Found::Nothing => Found::Nothing,
     }
@@ -52,5 +52,5 @@ pub fn first_within(t: &[u8], x: Test, p: usize) -> Found
 pub fn decl_named(t: &[u8], name: u16) -> Found
     ensures { λ r. ⌜ r ≡ declNamed (decode (now (t .entry))) name ⌝ }
 {
-    first(t, Test::DeclNamed(name), 0)
+    first(t, Target::DeclNamed(name), 0)
 }
