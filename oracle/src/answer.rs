@@ -12,7 +12,7 @@ use crate::reply::Reply;
 /// Bytes of each of the program's two buffers.
 pub const PROGRAM_BUFFER: usize = 64_000;
 /// Enough stack for chains of 1,600 declarations, also in an unoptimised build.
-const STACK_BYTES: usize = 512 << 20;
+pub const STACK_BYTES: usize = 512 << 20;
 
 /// A reply, all faults found, and the records of an accepted table.
 #[derive(Clone, Debug, PartialEq, Eq)]

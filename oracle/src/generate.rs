@@ -106,6 +106,12 @@ fn large_table(random: &mut Random) -> Vec<Record> {
     table
 }
 
+/// A table that every pass accepts, with about `records` records.
+pub fn sound_table_near(seed: u64, records: usize) -> Vec<Record> {
+    let bounds = Bounds { declarations: records / 7, parts: 12, is_small: false };
+    sound_table(&mut Random::new(seed), bounds)
+}
+
 /// A table with damaged bytes or records in the wrong place.
 fn damaged_bytes(random: &mut Random, bounds: Bounds) -> Vec<u8> {
     let mut table =

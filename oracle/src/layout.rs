@@ -157,9 +157,8 @@ fn fits_place(record: &Record, before: &[Record]) -> bool {
 fn constraint_may_follow(before: &[Record]) -> bool {
     use kind::*;
     let kinds: Vec<u8> = before.iter().rev().take(2).map(|record| record.kind).collect();
-    match kinds[..] {
-        [PACKET | STRUCT | GROUP_FIELD | CONSTRAINT, ..] => true,
-        [CONDITION, GROUP_FIELD] => true,
-        _ => false,
-    }
+    matches!(
+        kinds[..],
+        [PACKET | STRUCT | GROUP_FIELD | CONSTRAINT, ..] | [CONDITION, GROUP_FIELD]
+    )
 }

@@ -1,7 +1,9 @@
 //! The oracle: the unchanged Rust passes of google/pdl, run on tables of 40-byte records.
 
 pub mod answer;
+pub mod bench;
 pub mod cases;
+pub mod compare;
 pub mod convert;
 pub mod coverage;
 pub mod fault;

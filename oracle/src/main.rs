@@ -1,20 +1,28 @@
 //! The commands of the oracle.
 
 use oracle::answer::{answer, on_deep_stack, PROGRAM_BUFFER};
+use oracle::bench;
 use oracle::cases::case_text;
+use oracle::compare::Comparison;
 use oracle::coverage::{Coverage, WANTED};
-use oracle::generate::generate;
+use oracle::generate::{generate, generate_small};
 use oracle::print::printed;
 use oracle::verify::{silence_panics, verify, Verified};
 use std::io::{Read, Write};
+use std::path::Path;
 use std::process::ExitCode;
 
 const USAGE: &str = "usage:
   oracle answer [--table-len N] [--fault-len N]    the answer to the table on standard input
   oracle generate SEED                             the bytes of a generated table
-  oracle coverage COUNT [--seed S]                 how often generated cases reach each reply and code
+  oracle compare PROGRAM COUNT [--seed S]          a program's output against the oracle's
+  oracle coverage COUNT [--seed S] [--small N]     how often generated cases reach each reply and code
   oracle verify COUNT [--seed S]                   the Rust panics exactly on Unfit and Loose
-  oracle cases COUNT MAXRECORDS [--seed S]         small cases as text";
+  oracle cases COUNT MAXRECORDS [--seed S]         small cases as text
+  oracle bench                                     the time that the Rust passes take";
+
+/// Where differences between a program and the oracle are saved.
+const DIFFERENCES: &str = "target/differences";
 
 fn main() -> ExitCode {
     let arguments: Vec<String> = std::env::args().skip(1).collect();
@@ -70,9 +78,11 @@ fn run(arguments: &[String]) -> Result<ExitCode, String> {
     match command.as_str() {
         "answer" => run_answer(&Arguments::parse(rest, &["--table-len", "--fault-len"])?),
         "generate" => run_generate(&Arguments::parse(rest, &[])?),
-        "coverage" => run_coverage(&Arguments::parse(rest, &["--seed"])?),
+        "compare" => run_compare(&Arguments::parse(rest, &["--seed"])?),
+        "coverage" => run_coverage(&Arguments::parse(rest, &["--seed", "--small"])?),
         "verify" => run_verify(&Arguments::parse(rest, &["--seed"])?),
         "cases" => run_cases(&Arguments::parse(rest, &["--seed"])?),
+        "bench" => run_bench(&Arguments::parse(rest, &[])?),
         _ => Err(format!("unknown command `{command}`\n{USAGE}")),
     }
 }
@@ -96,12 +106,33 @@ fn run_generate(arguments: &Arguments) -> Result<ExitCode, String> {
     print_bytes(&generate(number(seed)?).input)
 }
 
+fn run_compare(arguments: &Arguments) -> Result<ExitCode, String> {
+    let [program, count] = arguments.expect()?;
+    let comparison = Comparison {
+        program: Path::new(program),
+        first_seed: arguments.option("--seed", 0),
+        count: number(count)?,
+        directory: Path::new(DIFFERENCES),
+    };
+    let outcome = comparison.run().map_err(|error| format!("{program}: {error}"))?;
+    print!("{}", outcome.coverage.text());
+    let differing = outcome.differing_seeds;
+    if differing.is_empty() {
+        println!("no difference");
+        return Ok(ExitCode::SUCCESS);
+    }
+    let first: Vec<String> = differing.iter().take(10).map(u64::to_string).collect();
+    println!("{} tables differ, seeds {}; see {DIFFERENCES}", differing.len(), first.join(", "));
+    Ok(ExitCode::FAILURE)
+}
+
 fn run_coverage(arguments: &Arguments) -> Result<ExitCode, String> {
     let [count] = arguments.expect()?;
     let first = arguments.option("--seed", 0);
     let mut coverage = Coverage::default();
+    let small = arguments.option("--small", 0) as usize;
     for seed in first..first.saturating_add(number(count)?) {
-        let case = generate(seed);
+        let case = if small > 0 { generate_small(seed, small) } else { generate(seed) };
         coverage.count(&answer(&case.input, case.table_len));
     }
     print!("{}", coverage.text());
@@ -147,4 +178,9 @@ fn run_cases(arguments: &Arguments) -> Result<ExitCode, String> {
         out.write_all(text.as_bytes()).map_err(|error| error.to_string())?;
     }
     Ok(ExitCode::SUCCESS)
+}
+
+fn run_bench(arguments: &Arguments) -> Result<ExitCode, String> {
+    let [] = arguments.expect()?;
+    print_bytes(bench::text().as_bytes())
 }
