@@ -83,7 +83,9 @@ fn sizes() -> Vec<Record> {
 /// Each packet names the next one as its parent, so that the first visit goes down the whole chain.
 fn parents() -> Vec<Record> {
     let parent = |at: u16| if at < 1_600 { at + 1 } else { 0 };
-    (1..=1_600).map(|at| Record { second: parent(at), ..named(kind::PACKET, at as usize) }).collect()
+    (1..=1_600)
+        .map(|at| Record { second: parent(at), ..named(kind::PACKET, at as usize) })
+        .collect()
 }
 
 /// Sixty groups, each in the one before it with a constraint, inlined into twenty packets.

@@ -47,11 +47,12 @@ pub fn generate(seed: u64) -> Case {
 pub fn generate_small(seed: u64, most: usize) -> Case {
     let mut random = Random::new(seed);
     let mut input = Vec::new();
+    let takes_empty = random.chance(3);
     for _ in 0..60 {
         let declarations = random.between(0, (most / 3).clamp(1, 5));
         let bounds = Bounds { declarations, parts: (most / 3).clamp(1, 4), is_small: true };
         input = table_bytes(&mut random, bounds);
-        if input.len() <= most * RECORD_BYTES {
+        if input.len() <= most * RECORD_BYTES && (takes_empty || !input.is_empty()) {
             break;
         }
     }
@@ -63,9 +64,11 @@ pub fn generate_small(seed: u64, most: usize) -> Case {
 
 /// The bytes of a table of some random sort.
 fn table_bytes(random: &mut Random, bounds: Bounds) -> Vec<u8> {
-    let few = usize::from(!bounds.is_small);
-    let weights =
-        [300, 380, 130, 35, 35, 40, 12, 16 * few, 16 * few, 10 * few, 8 * few, 10 * few, 12 * few];
+    let weights: [usize; 13] = if bounds.is_small {
+        [240, 480, 120, 120, 30, 40, 15, 0, 0, 0, 0, 0, 0]
+    } else {
+        [300, 380, 130, 35, 35, 40, 12, 16, 16, 10, 8, 10, 12]
+    };
     match random.weighted(&weights) {
         0 => encode_table(&sound_table(random, bounds)),
         1 => encode_table(&planted_table(random, bounds)),

@@ -49,10 +49,15 @@ pub fn check(input: &[u8]) -> Result<Vec<Record>, Reply> {
         return Err(Reply::TooLong);
     }
     let mut table: Vec<Record> = Vec::new();
+    let mut holder = 0;
     for (place, bytes) in input.chunks_exact(RECORD_BYTES).enumerate() {
         let record = Record::decode(bytes);
-        if !spare_bytes_are_zero(bytes) || !fits_row(&record) || !fits_place(&record, &table) {
+        let fits = fits_row(&record) && fits_place(&record, holder, &table);
+        if !fits || !spare_bytes_are_zero(bytes) {
             return Err(Reply::Malformed(place));
+        }
+        if record.is_declaration() {
+            holder = record.kind;
         }
         table.push(record);
     }
@@ -135,11 +140,9 @@ fn number_fits(listed: Number, number: u64, record: &Record) -> bool {
     }
 }
 
-/// Whether a record may stand behind the records before it.
-fn fits_place(record: &Record, before: &[Record]) -> bool {
+/// Whether a record may stand behind the records before it, in a declaration of the kind `holder`.
+fn fits_place(record: &Record, holder: u8, before: &[Record]) -> bool {
     use kind::*;
-    let holder = before.iter().rev().find(|record| record.is_declaration());
-    let holder = holder.map_or(0, |record| record.kind);
     let last = before.last().map_or(0, |record| record.kind);
     match record.kind {
         CHECKSUM..=TEST => true,
@@ -157,8 +160,5 @@ fn fits_place(record: &Record, before: &[Record]) -> bool {
 fn constraint_may_follow(before: &[Record]) -> bool {
     use kind::*;
     let kinds: Vec<u8> = before.iter().rev().take(2).map(|record| record.kind).collect();
-    matches!(
-        kinds[..],
-        [PACKET | STRUCT | GROUP_FIELD | CONSTRAINT, ..] | [CONDITION, GROUP_FIELD]
-    )
+    matches!(kinds[..], [PACKET | STRUCT | GROUP_FIELD | CONSTRAINT, ..] | [CONDITION, GROUP_FIELD])
 }

@@ -21,18 +21,24 @@ fn reserved() -> Record {
     Record { one: 8, ..Record::of(kind::RESERVED) }
 }
 
+/// Bounds for what stands beside the part that matters.
+fn beside(bounds: Bounds) -> Bounds {
+    let most = if bounds.is_small { 0 } else { 2 };
+    Bounds { declarations: bounds.declarations.min(most), ..bounds }
+}
+
 /// A group field whose constraint fits no Scalar or no Typedef.
 pub fn unfit(random: &mut Random, bounds: Bounds) -> Vec<Record> {
     let mut drafting = Drafting::new(random);
-    let base = Bounds { declarations: bounds.declarations.min(2), ..bounds };
-    sound::fill(&mut drafting, base);
+    sound::fill(&mut drafting, beside(bounds));
     let mut inner = drafting.add(kind::GROUP);
-    for number in 0..drafting.random.between(1, 3) {
+    for number in 0..most_fields(&mut drafting, bounds) {
         let name = drafting.field_name(number);
         let field = if number == 1 { typed(&mut drafting, name) } else { scalar(name as usize) };
         drafting.insert(inner, vec![field]);
     }
-    for _ in 0..drafting.random.weighted(&[55, 30, 15]) {
+    let depth = if bounds.is_small { [90, 10, 0] } else { [55, 30, 15] };
+    for _ in 0..drafting.random.weighted(&depth) {
         let outer = drafting.add(kind::GROUP);
         push_constrained(&mut drafting, outer, inner);
         inner = outer;
@@ -41,6 +47,10 @@ pub fn unfit(random: &mut Random, bounds: Bounds) -> Vec<Record> {
     let packet = drafting.add(kind);
     push_constrained(&mut drafting, packet, inner);
     finish::table(drafting)
+}
+
+fn most_fields(drafting: &mut Drafting, bounds: Bounds) -> usize {
+    drafting.random.between(1, if bounds.is_small { 2 } else { 3 })
 }
 
 /// A typedef of an enum made for it.
@@ -66,8 +76,7 @@ fn push_constrained(drafting: &mut Drafting, host: usize, inner: usize) {
 /// A condition without value, or on a field that has no name or loses it.
 pub fn loose(random: &mut Random, bounds: Bounds) -> Vec<Record> {
     let mut drafting = Drafting::new(random);
-    let base = Bounds { declarations: bounds.declarations.min(2), ..bounds };
-    sound::fill(&mut drafting, base);
+    sound::fill(&mut drafting, beside(bounds));
     let host = drafting.field_host();
     let name = drafting.fresh_field();
     let one = drafting.random.pick(&EDGES);
