@@ -163,7 +163,7 @@ fn fixed_fault(listed: &[Declaration], field: &Record) -> Option<Fault> {
     let is_tag =
         |part: &Part| part.record.kind != kind::INNER_VALUE && part.record.name == field.third;
     match found.head.kind {
-        kind::ENUM if found.parts.iter().any(|part| is_tag(part)) => None,
+        kind::ENUM if found.parts.iter().any(is_tag) => None,
         kind::ENUM => Some(fault(34, field, Some(found.head))),
         _ => Some(fault(35, field, Some(found.head))),
     }
