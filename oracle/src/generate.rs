@@ -64,10 +64,10 @@ pub fn generate_small(seed: u64, most: usize) -> Case {
 
 /// The bytes of a table of some random sort.
 fn table_bytes(random: &mut Random, bounds: Bounds) -> Vec<u8> {
-    let weights: [usize; 13] = if bounds.is_small {
-        [240, 480, 120, 120, 30, 40, 15, 0, 0, 0, 0, 0, 0]
+    let weights: [usize; 14] = if bounds.is_small {
+        [200, 480, 120, 110, 60, 40, 15, 80, 0, 0, 0, 0, 0, 0]
     } else {
-        [300, 380, 130, 35, 35, 40, 12, 16, 16, 10, 8, 10, 12]
+        [280, 380, 130, 35, 35, 40, 12, 30, 16, 16, 10, 8, 10, 12]
     };
     match random.weighted(&weights) {
         0 => encode_table(&sound_table(random, bounds)),
@@ -77,11 +77,12 @@ fn table_bytes(random: &mut Random, bounds: Bounds) -> Vec<u8> {
         4 => encode_table(&rooms::loose(random, bounds)),
         5 => encode_table(&damage::wild(random, bounds)),
         6 => damage::uneven(random, bounds),
-        7 => encode_table(&rooms::swollen(random)),
-        8 => encode_table(&rooms::overlisted(random)),
-        9 => encode_table(&rooms::deep(random)),
-        10 => encode_table(&rooms::many_faults(random)),
-        11 => encode_table(&large_table(random)),
+        7 => encode_table(&rooms::flags(random, bounds)),
+        8 => encode_table(&rooms::swollen(random)),
+        9 => encode_table(&rooms::overlisted(random)),
+        10 => encode_table(&rooms::deep(random)),
+        11 => encode_table(&rooms::many_faults(random)),
+        12 => encode_table(&large_table(random)),
         _ => damage::too_long(random),
     }
 }

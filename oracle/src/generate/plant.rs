@@ -166,8 +166,9 @@ fn wrong_tag(drafting: &mut Drafting, code: u16) {
         14 => value(drafting, host, most + 1),
         40 => wrong_range(drafting, host, most),
         41 => {
+            let (one, two) = drafting.random.pick(&[(5, 7), (1, 5), (5, 1), (2, 3), (0, 1)]);
             range(drafting, host, 1, 5);
-            range(drafting, host, 5, 7);
+            range(drafting, host, one, two);
         }
         44 => (0..2).for_each(|_| default_tag(drafting, host)),
         _ => {
@@ -215,8 +216,9 @@ fn twice(drafting: &mut Drafting, host: usize, same_name: bool) {
 pub fn random_tag(drafting: &mut Drafting, host: usize) {
     let number = drafting.random.below(12);
     let name = drafting.tag_name(number);
-    let one = drafting.random.below(12) as u64;
-    let two = drafting.random.below(12) as u64;
+    let limit = drafting.random.pick(&[4, 12, 12]);
+    let one = drafting.random.below(limit) as u64;
+    let two = drafting.random.below(limit) as u64;
     let part = match drafting.random.weighted(&[50, 40, 10]) {
         0 => vec![Record { name, one, ..Record::of(kind::TAG_VALUE) }],
         1 => {
@@ -260,7 +262,13 @@ fn repeated_size(drafting: &mut Drafting, code: u16) {
 fn missing_size(drafting: &mut Drafting, code: u16) {
     let host = drafting.field_host();
     let fresh = drafting.fresh_field();
-    let second = if drafting.random.chance(60) { fresh } else { drafting.random.pick(&[1, 2]) };
+    let second = if drafting.random.chance(50) { fresh } else { drafting.random.pick(&[1, 2]) };
+    if second < 3 && drafting.random.chance(60) {
+        // A payload or body that this size field does not find.
+        let matches_body = code == 24 && second == 1 || drafting.random.chance(30);
+        let kind = if matches_body { kind::BODY } else { kind::PAYLOAD };
+        drafting.insert(host, vec![Record::of(kind)]);
+    }
     drafting.insert(host, vec![Record { second, one: 8, ..Record::of(size_kind(code)) }]);
 }
 

@@ -73,27 +73,13 @@ fn push_constrained(drafting: &mut Drafting, host: usize, inner: usize) {
     drafting.insert(host, part);
 }
 
-/// A condition without value, or on a field that has no name or loses it.
+/// Conditions without value, or on fields that have no name or lose it.
 pub fn loose(random: &mut Random, bounds: Bounds) -> Vec<Record> {
     let mut drafting = Drafting::new(random);
     sound::fill(&mut drafting, beside(bounds));
     let host = drafting.field_host();
-    let name = drafting.fresh_field();
-    let one = drafting.random.pick(&EDGES);
-    let with_value = Record { marks: 1, one, ..named(kind::CONDITION, name) };
-    match drafting.random.below(4) {
-        0 => {
-            let bare = named(kind::CONDITION, name);
-            drafting.insert(host, vec![scalar(name as usize), bare]);
-        }
-        1 => drafting.insert(host, vec![reserved(), with_value]),
-        2 => {
-            let payload = Record::of(kind::PAYLOAD);
-            drafting.drafts[host].parts.retain(|part| part[0].kind != kind::BODY);
-            drafting.drafts[host].parts.retain(|part| part[0].kind != kind::PAYLOAD);
-            drafting.insert(host, vec![payload, with_value]);
-        }
-        _ => constrained_condition(&mut drafting, name, with_value),
+    for _ in 0..drafting.random.weighted(&[0, 60, 40]) {
+        loose_field(&mut drafting, host);
     }
     if drafting.drafts[host].head.kind == kind::GROUP {
         let packet = drafting.add(kind::PACKET);
@@ -103,14 +89,75 @@ pub fn loose(random: &mut Random, bounds: Bounds) -> Vec<Record> {
     finish::table(drafting)
 }
 
+/// Adds one field with a condition that no flag can list.
+fn loose_field(drafting: &mut Drafting, host: usize) {
+    let name = drafting.fresh_field();
+    let one = drafting.random.pick(&EDGES);
+    let with_value = Record { marks: 1, one, ..named(kind::CONDITION, name) };
+    match drafting.random.below(4) {
+        0 => {
+            let second = drafting.random.pick(&[0, 1, 9]);
+            let bare = Record { second, ..named(kind::CONDITION, name) };
+            drafting.insert(host, vec![scalar(name as usize), bare]);
+        }
+        1 => drafting.insert(host, vec![reserved(), with_value]),
+        2 => {
+            let parts = &mut drafting.drafts[host].parts;
+            parts.retain(|part| !matches!(part[0].kind, kind::BODY | kind::PAYLOAD));
+            drafting.insert(host, vec![Record::of(kind::PAYLOAD), with_value]);
+        }
+        _ => constrained_condition(drafting, name, with_value),
+    }
+}
+
 /// A conditional Scalar of a group that a constraint makes a FixedScalar, which has no name.
 fn constrained_condition(drafting: &mut Drafting, name: u16, condition: Record) {
     let group = drafting.add(kind::GROUP);
     drafting.insert(group, vec![scalar(name as usize), condition]);
     let host = drafting.add(kind::PACKET);
-    let held = Record { marks: 1, one: 3, ..named(kind::CONSTRAINT, name) };
+    // Without a value the same field is Unfit, which comes first.
+    let marks = u8::from(drafting.random.chance(80));
+    let held = Record { marks, one: 3 * u64::from(marks), ..named(kind::CONSTRAINT, name) };
     let second = drafting.drafts[group].head.name;
     drafting.insert(host, vec![group_field(second), held]);
+}
+
+/// A packet or struct with several conditions a flag, in itself or from a group inlined once or twice.
+pub fn flags(random: &mut Random, bounds: Bounds) -> Vec<Record> {
+    let mut drafting = Drafting::new(random);
+    sound::fill(&mut drafting, beside(bounds));
+    let kind = drafting.random.pick(&[kind::PACKET, kind::STRUCT, kind::GROUP]);
+    let host = drafting.add(kind);
+    for number in 0..drafting.random.between(2, if bounds.is_small { 4 } else { 9 }) {
+        let part = flag_or_optional(&mut drafting, number);
+        drafting.insert(host, part);
+    }
+    if kind == kind::GROUP {
+        let packet = drafting.add(kind::PACKET);
+        for _ in 0..drafting.random.between(1, 2) {
+            let field = group_field(drafting.drafts[host].head.name);
+            drafting.insert(packet, vec![field]);
+        }
+    }
+    finish::table(drafting)
+}
+
+/// A named field, mostly with a condition on one of the first two fields.
+fn flag_or_optional(drafting: &mut Drafting, number: usize) -> Vec<Record> {
+    let name = drafting.field_name(number);
+    let mut field = scalar(name as usize);
+    if drafting.random.chance(25) {
+        (field.kind, field.marks) = (kind::ARRAY, 1);
+    }
+    let mut part = vec![field];
+    if drafting.random.chance(75) {
+        let flag = drafting.random.weighted(&[60, 30, 10]);
+        let one = drafting.random.pick(&[0, 1, 1, u64::MAX]);
+        let second = drafting.random.pick(&[0, 0, 0, 7]);
+        let flag = drafting.field_name(flag);
+        part.push(Record { marks: 1, one, second, ..named(kind::CONDITION, flag) });
+    }
+    part
 }
 
 /// Tables whose inlined form has about as many records as a table holds, or far more.
