@@ -15,9 +15,10 @@ const KINDS: [u8; 38] = [
 pub fn records(random: &mut Random, table: &mut Vec<Record>) {
     for _ in 0..random.between(1, 3) {
         let at = random.below(table.len());
-        match random.below(7) {
+        match random.weighted(&[12, 25, 8, 12, 8, 15, 20]) {
             0 => table.insert(at.min(table.len()), any_record(random)),
             1 => wrong_place(random, table),
+            6 => break_row(random, table),
             2 if !table.is_empty() => {
                 table.remove(at);
             }
@@ -49,6 +50,34 @@ fn change(random: &mut Random, record: &mut Record) {
     }
 }
 
+/// Breaks one rule of a row in a record of a kind that the rule speaks of.
+fn break_row(random: &mut Random, table: &mut [Record]) {
+    let rule = random.below(6);
+    let kinds: &[u8] = match rule {
+        0 => &[10, 11, 40, 41, 42, 43],
+        1 => &[2, 10, 11, 30],
+        2 => &[30],
+        3 => &[31],
+        4 => &[10, 11, 40, 42],
+        _ => &[1, 2, 3, 4, 5, 6, 7, 10, 11, 20, 22, 23, 24, 28, 30, 31, 33, 34, 40, 41, 42, 43],
+    };
+    let fitting = |at: &usize| kinds.contains(&table[*at].kind);
+    let found: Vec<usize> = (0..table.len()).filter(fitting).collect();
+    if found.is_empty() {
+        return;
+    }
+    let record = &mut table[random.pick(&found)];
+    match rule {
+        0 => record.key = random.pick(&[1, 256, 65_535]),
+        1 => (record.marks, record.one) = (record.marks & 2, random.pick(&[0, 1, u64::MAX])),
+        2 => (record.marks, record.second) = (random.below(4) as u8, random.pick(&[0, 5])),
+        3 => (record.kind, record.one) = (kind::FLAG, 0),
+        4 => *record = Record { name: record.name, ..Record::of(kind::FLAG_ENTRY) },
+        _ if random.chance(50) => record.name = 0,
+        _ => record.second = 0,
+    }
+}
+
 /// A record of a random kind.
 fn any_record(random: &mut Random) -> Record {
     let kind = random.pick(&KINDS);
@@ -61,12 +90,15 @@ fn record_of(random: &mut Random, kind: u8) -> Record {
     let one = random.pick(&EDGES);
     let record = Record::of(kind);
     match kind {
-        kind::CHECKSUM | kind::ENUM | kind::SCALAR | kind::TAG_VALUE | kind::INNER_VALUE => {
-            Record { name, one, ..record }
-        }
+        kind::CHECKSUM
+        | kind::ENUM
+        | kind::SCALAR
+        | kind::TAG_VALUE
+        | kind::INNER_VALUE
+        | kind::FLAG_ENTRY => Record { name, one, ..record },
         kind::CUSTOM => Record { name, one, marks: 1, ..record },
         kind::PACKET | kind::STRUCT | kind::TYPEDEF => Record { name, second, ..record },
-        kind::GROUP | kind::DEFAULT_TAG => Record { name, ..record },
+        kind::GROUP | kind::DEFAULT_TAG | kind::FLAG => Record { name, ..record },
         kind::CONSTRAINT | kind::CONDITION => Record { name, one, marks: 1, ..record },
         kind::TEST | kind::CHECKSUM_FIELD | kind::GROUP_FIELD => Record { second, ..record },
         kind::PADDING | kind::RESERVED => Record { one, ..record },
@@ -93,15 +125,38 @@ fn wrong_place(random: &mut Random, table: &mut Vec<Record>) {
         (kind::GROUP, kind::CONSTRAINT),
         (kind::GROUP, kind::DEFAULT_TAG),
         (kind::TEST, kind::RESERVED),
+        (kind::CUSTOM, kind::SCALAR),
+        (kind::CHECKSUM, kind::BODY),
+        (kind::CUSTOM, kind::TAG_VALUE),
+        (kind::ENUM, kind::CONSTRAINT),
+        (kind::ENUM, kind::INNER_VALUE),
+        (kind::TAG_VALUE, kind::CONDITION),
         (kind::CONSTRAINT, kind::CONDITION),
         (kind::PACKET, kind::CONDITION),
         (kind::SCALAR, kind::FLAG_ENTRY),
         (kind::PACKET, kind::FLAG),
     ];
     let (before, behind) = random.pick(&pairs);
-    let found = table.iter().position(|record| record.kind == before);
-    let at = found.map_or(0, |at| at + 1);
-    table.insert(at, record_of(random, behind));
+    let behind = record_of(random, behind);
+    let holders: Vec<usize> = (0..table.len()).filter(|&at| table[at].kind == before).collect();
+    if random.chance(10) {
+        table.insert(0, behind);
+    } else if !holders.is_empty() && random.chance(80) {
+        table.insert(random.pick(&holders) + 1, behind);
+    } else {
+        table.extend(leading_to(before).iter().map(|&kind| record_of(random, kind)));
+        table.push(behind);
+    }
+}
+
+/// Kinds that stand in this order and end with the wanted one.
+fn leading_to(wanted: u8) -> Vec<u8> {
+    match wanted {
+        kind::CONSTRAINT | kind::SCALAR => vec![kind::PACKET, wanted],
+        kind::CONDITION => vec![kind::STRUCT, kind::SCALAR, wanted],
+        kind::TAG_VALUE | kind::DEFAULT_TAG => vec![kind::ENUM, wanted],
+        _ => vec![wanted],
+    }
 }
 
 /// Changes one to three bytes, of any part or of the spare ones.
