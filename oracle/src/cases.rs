@@ -25,5 +25,6 @@ pub fn case_text(seed: u64, most_records: usize) -> String {
 }
 
 fn bytes_line(word: &str, bytes: &[u8]) -> String {
-    bytes.iter().fold(word.to_owned(), |line, byte| format!("{line} {byte}"))
+    let words = std::iter::once(word.to_owned()).chain(bytes.iter().map(u8::to_string));
+    words.collect::<Vec<String>>().join(" ")
 }

@@ -29,7 +29,7 @@ pub(crate) struct Bounds {
     pub is_small: bool,
 }
 
-/// The case of a seed. Call it on a deep stack: a share of the buffer lengths depends on the answer.
+/// The case of a seed. Call it on a deep stack: some buffer lengths depend on the answer.
 pub fn generate(seed: u64) -> Case {
     let mut random = Random::new(seed);
     let bounds = match random.weighted(&[60, 35, 5]) {
@@ -128,7 +128,7 @@ fn damaged_bytes(random: &mut Random, bounds: Bounds) -> Vec<u8> {
     bytes
 }
 
-/// A length of the table buffer: mostly `usual`, else an edge or a length near what the answer needs.
+/// A length of the table buffer: mostly `usual`, else an edge or about what the answer needs.
 fn table_length(random: &mut Random, input: &[u8], percent: usize, usual: usize) -> usize {
     if random.chance(percent) {
         return usual;

@@ -1,4 +1,4 @@
-//! What inlining would do, found without calling the Rust: sizes, and the fields that make it panic.
+//! What inlining would do, without calling the Rust: sizes, and the fields that make it panic.
 
 use crate::ast::*;
 use crate::record::MOST_RECORDS;
@@ -26,7 +26,7 @@ fn fields_size<'a>(fields: impl Iterator<Item = &'a Field>, sizes: &Sizes) -> us
     fields.fold(0, |sum, field| TOO_MANY.min(sum + field_size(field, sizes)))
 }
 
-/// The records of a field in the inlined table; a group field's own condition and constraints bring none.
+/// The records of a field once inlined; a group field's own condition and constraints bring none.
 fn field_size(field: &Field, sizes: &Sizes) -> usize {
     match &field.desc {
         FieldDesc::Group { group_id, .. } => sizes[group_id],
@@ -84,7 +84,7 @@ impl Holding<'_> {
     }
 }
 
-/// The key of the first inlined field whose holding constraint does not fit, of a file without empty groups.
+/// The key of the first inlined field whose constraint does not fit; the file has no empty groups.
 pub fn first_unfit(file: &File) -> Option<FieldKey> {
     let groups = groups_by_name(file);
     let nothing = Holding { constraints: &[], outer: None };

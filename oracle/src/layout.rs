@@ -155,8 +155,8 @@ fn fits_place(record: &Record, holder: u8, before: &[Record]) -> bool {
     }
 }
 
-/// Whether a constraint may stand next: behind a packet or struct, or a group field with or without its
-/// condition, or another constraint.
+/// Whether a constraint may stand next: behind a packet, a struct, another constraint, or a group
+/// field with or without its condition.
 fn constraint_may_follow(before: &[Record]) -> bool {
     use kind::*;
     let kinds: Vec<u8> = before.iter().rev().take(2).map(|record| record.kind).collect();

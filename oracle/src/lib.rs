@@ -22,7 +22,7 @@ pub mod ast {
     include!("../vendor/pdl/ast.rs");
 }
 
-/// The analyzer of google/pdl, included as it was published; a child module sees its private passes.
+/// The analyzer of google/pdl, included as it was published; its child sees the private passes.
 #[allow(dead_code, clippy::all)]
 pub mod analyzer {
     include!("../vendor/pdl/analyzer.rs");

@@ -16,7 +16,7 @@ const USAGE: &str = "usage:
   oracle answer [--table-len N] [--fault-len N]    the answer to the table on standard input
   oracle generate SEED                             the bytes of a generated table
   oracle compare PROGRAM COUNT [--seed S]          a program's output against the oracle's
-  oracle coverage COUNT [--seed S] [--small N]     how often generated cases reach each reply and code
+  oracle coverage COUNT [--seed S] [--small N]     how often cases reach each reply and code
   oracle verify COUNT [--seed S]                   the Rust panics exactly on Unfit and Loose
   oracle cases COUNT MAXRECORDS [--seed S]         small cases as text
   oracle bench                                     the time that the Rust passes take";

@@ -2,7 +2,7 @@
 
 use super::*;
 
-/// Runs passes 1 to 9: the file with its declarations in listed order, or the first pass that finds faults.
+/// Runs passes 1 to 9: the file in listed order, or the first pass that finds faults.
 pub fn check(file: &File) -> Result<File, (u16, Diagnostics)> {
     let scope = Scope::new(file).map_err(|found| (1, found))?;
     let listed = check_decl_identifiers(file, &scope).map_err(|found| (2, found))?;

@@ -7,7 +7,7 @@ use crate::record::{kind, Record};
 pub const EDGES: [u64; 16] =
     [0, 1, 2, 7, 8, 16, 31, 32, 63, 64, 65, 255, 256, 1 << 32, 1 << 63, u64::MAX];
 
-/// One declaration. A part is a field with its condition and constraints, or a tag with its inner values.
+/// One declaration. A part is a field with what belongs to it, or a tag with its inner values.
 #[derive(Clone, Debug)]
 pub struct Draft {
     pub head: Record,

@@ -122,7 +122,7 @@ fn constrained_condition(drafting: &mut Drafting, name: u16, condition: Record) 
     drafting.insert(host, vec![group_field(second), held]);
 }
 
-/// A packet or struct with several conditions a flag, in itself or from a group inlined once or twice.
+/// Several conditions a flag, in a packet or struct or in a group inlined once or twice.
 pub fn flags(random: &mut Random, bounds: Bounds) -> Vec<Record> {
     let mut drafting = Drafting::new(random);
     sound::fill(&mut drafting, beside(bounds));

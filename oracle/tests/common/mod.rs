@@ -89,7 +89,7 @@ pub fn printed_for(table: &[Record]) -> String {
     printed(&answer_to(&placed(table)), PROGRAM_BUFFER)
 }
 
-/// Code, place and place of the secondary of each fault, for a table whose locations are its places.
+/// Code, place and secondary's place of each fault, for a table whose locations are its places.
 pub fn faults_in(table: &[Record]) -> Vec<(u16, u32, Option<u32>)> {
     let faults = answer_to(&placed(table)).faults;
     let places = |fault: &oracle::fault::Fault| {

@@ -68,7 +68,7 @@ fn body<'a>(
     fields
 }
 
-/// Expands fields under constraints, where a later one of the list beats an earlier one of the same name.
+/// Expands fields under constraints; of one name the later in the list holds.
 fn expand<'a>(
     parts: &[Part<'a>],
     holding: &[Record],

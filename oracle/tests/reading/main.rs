@@ -1,5 +1,6 @@
-//! Document 01's modules 2 to 12 written a second time, from its text and on records alone, and compared with
-//! the Rust on generated tables: a difference is one between the document and the Rust, or in the oracle.
+//! Document 01's modules 2 to 12 written a second time, from its text and on records alone, and
+//! compared with the Rust on generated tables. A difference is one between the document and the
+//! Rust, or a fault of the oracle.
 
 mod inline;
 mod order;
