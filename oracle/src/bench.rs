@@ -38,11 +38,15 @@ pub fn tables() -> Vec<NamedTable> {
 /// An accepted table of the generator with about 1,390 records.
 fn generated() -> Vec<Record> {
     let tables = (0..).map(|seed| sound_table_near(seed, 1_390));
-    let mut accepted = tables.filter(|table| {
-        let is_near = (1_380..=1_400).contains(&table.len());
-        is_near && matches!(answer(&encode_table(table), usize::MAX).reply, Reply::Accepted(_))
-    });
-    accepted.next().expect("the seeds never end")
+    let mut near = tables.filter(|table| (1_380..=1_400).contains(&table.len()));
+    near.find(|table| is_accepted(table)).expect("the seeds never end")
+}
+
+/// Whether a table is accepted and its groups are soon walked.
+fn is_accepted(table: &[Record]) -> bool {
+    let reply = answer(&encode_table(table), usize::MAX).reply;
+    let is_soon_walked = |listed: File| groups::is_soon_walked(&listed);
+    matches!(reply, Reply::Accepted(_)) && passes::check(&to_file(table)).is_ok_and(is_soon_walked)
 }
 
 fn named(kind: u8, name: usize) -> Record {
@@ -156,7 +160,7 @@ pub fn text() -> String {
 fn medians(table: &[Record]) -> Medians {
     let bytes = encode_table(table);
     let file = to_file(table);
-    let last = run_passes(&file).unwrap_or_else(|| file.clone());
+    let last = run_passes(&file);
     Medians {
         conversion: median(|| (to_file(table), to_table(&last))),
         passes: median(|| run_passes(&file)),
@@ -164,16 +168,12 @@ fn medians(table: &[Record]) -> Medians {
     }
 }
 
-/// All passes, `inline_groups` and `desugar_flags`; none where one of them refuses or would panic.
-pub fn run_passes(file: &File) -> Option<File> {
-    let listed = passes::check(file).ok()?;
-    let sizes = groups::sizes(&listed);
-    if groups::is_swollen(&listed, &sizes) || sizes.values().any(|&size| size == 0) {
-        return None;
-    }
+/// All passes, `inline_groups` and `desugar_flags`, on a table that is accepted and soon walked.
+pub fn run_passes(file: &File) -> File {
+    let listed = passes::check(file).unwrap_or_else(|(pass, _)| panic!("faults in pass {pass}"));
     let mut inlined = passes::inline(&listed);
     passes::desugar(&mut inlined);
-    Some(inlined)
+    inlined
 }
 
 fn median<T>(mut work: impl FnMut() -> T) -> Duration {

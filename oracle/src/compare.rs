@@ -5,15 +5,19 @@ use crate::coverage::Coverage;
 use crate::generate::generate;
 use crate::print::printed;
 use std::fs;
-use std::io::{self, Write};
+use std::io::{self, Read, Write};
 use std::path::Path;
-use std::process::{Command, Stdio};
+use std::process::{Command, ExitStatus, Stdio};
 use std::sync::atomic::{AtomicU64, AtomicUsize, Ordering};
+use std::sync::mpsc::channel;
 use std::thread::{scope, Builder};
+use std::time::Duration;
 
 /// As many differences are saved.
 const MOST_SAVED: usize = 20;
 const WORKERS: usize = 4;
+/// A program that has not ended by then differs.
+const PATIENCE: Duration = Duration::from_secs(60);
 
 /// The tables to compare on, and where differences go.
 pub struct Comparison<'a> {
@@ -33,6 +37,9 @@ pub struct Outcome {
 impl Comparison<'_> {
     /// Runs the program on every table, with a few workers side by side.
     pub fn run(&self) -> io::Result<Outcome> {
+        if self.directory.exists() {
+            fs::remove_dir_all(self.directory)?;
+        }
         let next = AtomicU64::new(0);
         let saved = AtomicUsize::new(0);
         let results: Vec<io::Result<Outcome>> = scope(|scope| {
@@ -86,20 +93,34 @@ impl Comparison<'_> {
     }
 }
 
-/// What a program prints for an input; a program that a signal ended is said to have died.
+/// What a program prints for an input, and how it ended if it did not end by itself.
 pub fn output_of(program: &Path, input: &[u8]) -> io::Result<Vec<u8>> {
     let mut command = Command::new(program);
     command.stdin(Stdio::piped()).stdout(Stdio::piped()).stderr(Stdio::null());
     let mut child = command.spawn()?;
     let mut stdin = child.stdin.take().expect("a pipe was asked for");
-    let output = scope(|scope| {
+    let mut stdout = child.stdout.take().expect("a pipe was asked for");
+    let (sender, receiver) = channel();
+    scope(|scope| {
         // A program may stop reading early, so that a failed write is no trouble.
         scope.spawn(move || stdin.write_all(input).ok());
-        child.wait_with_output()
-    })?;
-    let mut text = output.stdout;
-    if output.status.code().is_none() {
-        text.extend(format!("died: {}\n", output.status).bytes());
+        scope.spawn(move || {
+            let mut text = Vec::new();
+            sender.send(stdout.read_to_end(&mut text).map(|_| text)).ok();
+        });
+        if let Ok(read) = receiver.recv_timeout(PATIENCE) {
+            return ended(read?, child.wait()?);
+        }
+        child.kill()?;
+        child.wait()?;
+        Ok(format!("no end after {} seconds\n", PATIENCE.as_secs()).into_bytes())
+    })
+}
+
+/// The text of a program that ended, with a line behind it if a signal ended it.
+fn ended(mut text: Vec<u8>, status: ExitStatus) -> io::Result<Vec<u8>> {
+    if status.code().is_none() {
+        text.extend(format!("{status}\n").bytes());
     }
     Ok(text)
 }

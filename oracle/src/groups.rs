@@ -7,6 +7,9 @@ use std::collections::HashMap;
 /// Sizes stop here, so that doubled groups cannot overflow.
 const TOO_MANY: usize = MOST_RECORDS + 1;
 
+/// So many group fields are walked soon.
+const MOST_WALKS: u64 = 20_000;
+
 /// The number of records each group expands to, by name.
 pub type Sizes = HashMap<String, usize>;
 
@@ -119,4 +122,30 @@ pub fn first_loose(inlined: &File) -> Option<FieldKey> {
 
 fn is_loose(field: &Field) -> bool {
     field.cond.as_ref().is_some_and(|cond| field.id().is_none() || cond.value.is_none())
+}
+
+/// Whether `inline_groups` would end soon although the empty groups are left in.
+pub fn is_soon_walked(listed: &File) -> bool {
+    walks(listed) <= MOST_WALKS
+}
+
+/// The group fields that `inline_groups` would walk, saturating.
+fn walks(listed: &File) -> u64 {
+    let mut by_group: HashMap<&str, u64> = HashMap::new();
+    let mut sum = 0_u64;
+    for decl in &listed.declarations {
+        let own = decl.fields().fold(0, |sum: u64, field| match &field.desc {
+            FieldDesc::Group { group_id, .. } => {
+                sum.saturating_add(1 + by_group[group_id.as_str()])
+            }
+            _ => sum,
+        });
+        match (&decl.desc, Decl::id(decl)) {
+            (DeclDesc::Group { .. }, Some(id)) => {
+                by_group.insert(id, own.min(u64::MAX / 2));
+            }
+            _ => sum = sum.saturating_add(own),
+        }
+    }
+    sum
 }

@@ -2,16 +2,12 @@
 
 use crate::analyzer::passes;
 use crate::answer::answer;
-use crate::ast::{Decl, DeclDesc, FieldDesc, File};
+use crate::ast::File;
 use crate::convert::{to_file, to_table};
 use crate::groups;
 use crate::layout;
 use crate::reply::Reply;
-use std::collections::HashMap;
 use std::panic::{catch_unwind, AssertUnwindSafe};
-
-/// Beyond this many group fields walked, the Rust is called only without the empty groups.
-const MOST_WALKS: u64 = 20_000;
 
 /// What was verified on one table.
 #[derive(Clone, Copy, Debug, Default, PartialEq, Eq)]
@@ -69,7 +65,7 @@ fn panics_of(finite: &File) -> (bool, bool) {
 
 /// Checks that leaving the empty groups out changes nothing, where walking them ends soon.
 fn verify_empty_groups(listed: &File, finite: &File, sum: &mut Verified) -> Result<(), String> {
-    if walks(listed) > MOST_WALKS || to_table(listed) == to_table(finite) {
+    if !groups::is_soon_walked(listed) || to_table(listed) == to_table(finite) {
         return Ok(());
     }
     let written =
@@ -79,25 +75,4 @@ fn verify_empty_groups(listed: &File, finite: &File, sum: &mut Verified) -> Resu
     }
     sum.with_empty_groups = 1;
     Ok(())
-}
-
-/// The group fields that `inline_groups` would walk, saturating.
-fn walks(listed: &File) -> u64 {
-    let mut by_group: HashMap<&str, u64> = HashMap::new();
-    let mut sum = 0_u64;
-    for decl in &listed.declarations {
-        let own = decl.fields().fold(0, |sum: u64, field| match &field.desc {
-            FieldDesc::Group { group_id, .. } => {
-                sum.saturating_add(1 + by_group[group_id.as_str()])
-            }
-            _ => sum,
-        });
-        match (&decl.desc, Decl::id(decl)) {
-            (DeclDesc::Group { .. }, Some(id)) => {
-                by_group.insert(id, own.min(u64::MAX / 2));
-            }
-            _ => sum = sum.saturating_add(own),
-        }
-    }
-    sum
 }

@@ -246,8 +246,8 @@ fn repeated_flag(mut table: Vec<Record>) -> Vec<Record> {
 
 /// Long chains of parents, types or groups, sound or closed to a ring.
 pub fn deep(random: &mut Random) -> Vec<Record> {
-    let sort = random.below(4);
-    let each = if sort == 0 { 1 } else { 2 };
+    let sort = random.below(5);
+    let each = [1, 2, 2, 2, 3][sort];
     let length = random.pick(&[300, 700, MOST_RECORDS]) / each;
     let is_ring = random.chance(25);
     let mut chain: Vec<Vec<Record>> = Vec::new();
@@ -258,7 +258,7 @@ pub fn deep(random: &mut Random) -> Vec<Record> {
     if random.chance(30) {
         random.shuffle(&mut chain);
     }
-    if sort == 3 {
+    if sort >= 3 {
         chain[0][0].kind = kind::PACKET;
     }
     finish::direct(random, chain.concat())
@@ -273,7 +273,12 @@ fn link(sort: usize, name: u16, next: u16) -> Vec<Record> {
         _ => (kind::GROUP, group_field(next)),
     };
     let field = if next == 0 { scalar(7) } else { field };
-    vec![named(head, name), field]
+    let mut link = vec![named(head, name), field];
+    if sort == 4 && next != 0 {
+        // The innermost constraint holds, at the end of the whole chain.
+        link.push(Record { marks: 1, one: name.into(), ..named(kind::CONSTRAINT, 7 + name % 2) });
+    }
+    link
 }
 
 /// Tables with more faults than a buffer of 64,000 bytes holds.
