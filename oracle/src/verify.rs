@@ -7,7 +7,8 @@ use crate::convert::{to_file, to_table};
 use crate::groups;
 use crate::layout;
 use crate::reply::Reply;
-use std::panic::{catch_unwind, AssertUnwindSafe};
+use std::cell::Cell;
+use std::panic::{catch_unwind, set_hook, take_hook, AssertUnwindSafe};
 
 /// What was verified on one table.
 #[derive(Clone, Copy, Debug, Default, PartialEq, Eq)]
@@ -22,9 +23,27 @@ pub struct Verified {
     pub with_empty_groups: usize,
 }
 
-/// Silences the panics that `verify` provokes and catches.
+thread_local! {
+    /// Set while this thread provokes a panic.
+    static PROVOKES: Cell<bool> = const { Cell::new(false) };
+}
+
+/// Silences the panics that `verify` provokes and catches, and no others.
 pub fn silence_panics() {
-    std::panic::set_hook(Box::new(|_| ()));
+    let usual = take_hook();
+    set_hook(Box::new(move |panic| {
+        if !PROVOKES.get() {
+            usual(panic)
+        }
+    }));
+}
+
+/// The result of something that may panic, or none if it does.
+fn caught<T>(work: impl FnOnce() -> T) -> Option<T> {
+    PROVOKES.set(true);
+    let result = catch_unwind(AssertUnwindSafe(work)).ok();
+    PROVOKES.set(false);
+    result
 }
 
 /// Checks one table, or says what is wrong. Call it on a deep stack.
@@ -55,11 +74,9 @@ pub fn verify(input: &[u8]) -> Result<Verified, String> {
 
 /// Whether `inline_groups` panics, and whether `desugar_flags` panics after it.
 fn panics_of(finite: &File) -> (bool, bool) {
-    match catch_unwind(AssertUnwindSafe(|| passes::inline(finite))) {
-        Err(_) => (true, false),
-        Ok(mut inlined) => {
-            (false, catch_unwind(AssertUnwindSafe(|| passes::desugar(&mut inlined))).is_err())
-        }
+    match caught(|| passes::inline(finite)) {
+        None => (true, false),
+        Some(mut inlined) => (false, caught(|| passes::desugar(&mut inlined)).is_none()),
     }
 }
 
@@ -68,8 +85,7 @@ fn verify_empty_groups(listed: &File, finite: &File, sum: &mut Verified) -> Resu
     if !groups::is_soon_walked(listed) || to_table(listed) == to_table(finite) {
         return Ok(());
     }
-    let written =
-        |file: &File| catch_unwind(AssertUnwindSafe(|| to_table(&passes::inline(file)))).ok();
+    let written = |file: &File| caught(|| to_table(&passes::inline(file)));
     if written(listed) != written(finite) {
         return Err("leaving the empty groups out changes the inlined file".to_owned());
     }
