@@ -1,0 +1,152 @@
+// The layout of a table: its length, the row of each record and the place where it stands.
+mod rows;
+
+use rows::row_of;
+use rules::Layout;
+use rules::Record;
+use rules::Row;
+use table::kinds::holds_fields;
+use table::kinds::is_decl;
+use table::kinds::is_field;
+use table::kinds::is_packet_or_struct;
+ghost use mathlib.Core.Path.{_≡_};
+ghost use Prim.Native.Nat.{_+_, _<_, _≤_};
+ghost use lib.ListN.{length};
+ghost use Rattle.rules.specs.Table.{decode};
+ghost use Rattle.rules.specs.Layouts.{nameFits, numberFits, keyFits, arrayFits, keeps, spareZero, constraintStands, stands, soundAt, layout};
+ghost use Rattle.rules.specs.Replies.{layoutNumbered};
+ghost use Rattle.layout.specs.Surroundings.{around, after};
+
+// The kinds around a place: of its declaration, and of the records two and one before it; 0 outside the table.
+struct Around {
+    decl: u8,
+    before2: u8,
+    before1: u8,
+}
+
+fn name_fits(s: u8, n: u16) -> bool
+    ensures { λ r. ⌜ r ≡ nameFits s n ⌝ }
+{
+    (s == 2) | (((s == 1) & !(n == 0)) | ((s == 0) & (n == 0)))
+}
+
+fn number_fits(s: u8, mark: bool, n: u64) -> bool
+    ensures { λ r. ⌜ r ≡ numberFits s mark n ⌝ }
+{
+    (n == 0) | ((s == 1) | ((s == 2) & mark))
+}
+
+fn key_fits(r: Record) -> bool
+    ensures { λ b. ⌜ b ≡ keyFits r ⌝ }
+{
+    (r.key == 0) | (is_decl(r.kind) | is_field(r.kind))
+}
+
+fn array_fits(r: Record) -> bool
+    ensures { λ b. ⌜ b ≡ arrayFits r ⌝ }
+{
+    let width = r.marks % 2 == 1;
+    !(r.kind == 30) | ((width & (r.second == 0)) | (!width & !(r.second == 0)))
+}
+
+// Whether a record keeps to a row.
+fn keeps_row(w: Row, r: Record) -> bool
+    ensures { λ b. ⌜ b ≡ keeps w r ⌝ }
+{
+    let width = r.marks % 2 == 1;
+    let count = 2 <= r.marks;
+    !((w.kind == 0) | ((w.kind == 12) | (w.kind == 32)))
+        & ((r.marks <= w.marks)
+            & (name_fits(w.name, r.name)
+                & (name_fits(w.second, r.second)
+                    & (name_fits(w.third, r.third)
+                        & (number_fits(w.one, width, r.one)
+                            & (number_fits(w.two, count, r.two) & (key_fits(r) & array_fits(r))))))))
+}
+
+// Whether a constraint may stand behind records of kinds o and q.
+fn constraint_stands(o: u8, q: u8) -> bool
+    ensures { λ r. ⌜ r ≡ constraintStands o q ⌝ }
+{
+    is_packet_or_struct(q) | ((q == 34) | (((q == 11) & (o == 34)) | (q == 10)))
+}
+
+// Whether a record of kind k may stand where the kinds around it are these.
+fn stands_well(a: Around, k: u8) -> bool
+    ensures { λ r. ⌜ r ≡ stands (a .decl) (a .before2) (a .before1) k ⌝ }
+{
+    let q = a.before1;
+    is_decl(k)
+        | (((k == 10) & constraint_stands(a.before2, q))
+            | ((is_field(k) & holds_fields(a.decl))
+                | (((k == 11) & is_field(q))
+                    | ((((k == 40) | ((k == 41) | (k == 43))) & (a.decl == 3))
+                        | ((k == 42) & ((q == 41) | (q == 42)))))))
+}
+
+// Whether the bytes of a record that hold nothing are zero; i is where its bytes start.
+fn spare_zero(t: &[u8], i: usize) -> bool
+    requires { ⌜ i + 40 ≤ length (now t) ⌝ }
+    ensures { λ r. ⌜ r ≡ spareZero (now (t .entry)) i ⌝ }
+{
+    (table::number2(t, i + 26) == 0)
+        & ((table::number2(t, i + 30) == 0)
+            & ((table::number2(t, i + 34) == 0) & (table::number4(t, i + 36) == 0)))
+}
+
+// Whether the record at p breaks neither its row nor its place.
+fn sound_at(t: &[u8], p: usize, a: Around) -> bool
+    requires { ⌜ (p < length (decode (now t))) × (a ≡ around (decode (now t)) p) ⌝ }
+    ensures { λ r. ⌜ r ≡ soundAt (now (t .entry)) p ⌝ }
+{
+    let r = table::record(t, p);
+    let w = row_of(r.kind);
+    let i = table::base(t, p);
+    spare_zero(t, i) & (keeps_row(w, r) & stands_well(a, r.kind))
+}
+
+// The kinds around the next place, behind a record of kind k.
+fn step(a: Around, k: u8) -> Around
+    ensures { λ r. ⌜ r ≡ after a k ⌝ }
+{
+    if is_decl(k) {
+        return Around {
+            decl: k,
+            before2: a.before1,
+            before1: k,
+        };
+    }
+    Around {
+        decl: a.decl,
+        before2: a.before1,
+        before1: k,
+    }
+}
+
+// The rows Uneven, TooLong and Malformed, or a sound layout.
+pub fn check_layout(t: &[u8]) -> Layout
+    ensures { λ r. ⌜ r ≡ layout (now (t .entry)) ⌝ }
+    ensures numbered { λ r. ⌜ layoutNumbered r ≡ layoutNumbered (layout (now (t .entry))) ⌝ }
+{
+    if t.len() % 40 != 0 {
+        return Layout::Uneven;
+    }
+    let n = table::count(t);
+    if 1600 < n {
+        return Layout::TooLong;
+    }
+    let mut a = Around {
+        decl: 0,
+        before2: 0,
+        before1: 0,
+    };
+    let mut p = 0;
+    while p < n {
+        if !sound_at(t, p, a) {
+            return Layout::Malformed(p);
+        }
+        a = step(a, table::kind(t, p));
+        p += 1;
+    }
+    Layout::Sound
+}

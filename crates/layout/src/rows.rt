@@ -1,0 +1,62 @@
+// The table of records: what each kind holds.
+use rules::Row;
+ghost use mathlib.Core.Path.{_≡_};
+ghost use Rattle.rules.specs.Layouts.{row, rowOf};
+
+// A name or number that a kind doesn't list, or lists; a name that is opt; a number under its mark.
+const NONE: u8 = 0;
+const LISTED: u8 = 1;
+const OPT: u8 = 2;
+const MARKED: u8 = 2;
+
+fn row(kind: u8, marks: u8, name: u8, second: u8, third: u8, one: u8, two: u8) -> Row
+    ensures { λ r. ⌜ r ≡ row kind marks name second third one two ⌝ }
+{
+    Row {
+        kind,
+        marks,
+        name,
+        second,
+        third,
+        one,
+        two,
+    }
+}
+
+// The row of a kind, or one of kind 0.
+pub(crate) fn row_of(kind: u8) -> Row
+    ensures { λ r. ⌜ r ≡ rowOf kind ⌝ }
+{
+    match kind {
+        1 => row(1, 0, LISTED, NONE, NONE, LISTED, NONE),
+        2 => row(2, 1, LISTED, NONE, NONE, MARKED, NONE),
+        3 => row(3, 0, LISTED, NONE, NONE, LISTED, NONE),
+        4 => row(4, 0, LISTED, OPT, NONE, NONE, NONE),
+        5 => row(5, 0, LISTED, OPT, NONE, NONE, NONE),
+        6 => row(6, 0, LISTED, NONE, NONE, NONE, NONE),
+        7 => row(7, 0, NONE, LISTED, NONE, NONE, NONE),
+        10 => row(10, 1, LISTED, OPT, NONE, MARKED, NONE),
+        11 => row(11, 1, LISTED, OPT, NONE, MARKED, NONE),
+        12 => row(12, 0, LISTED, NONE, NONE, LISTED, NONE),
+        20 => row(20, 0, NONE, LISTED, NONE, NONE, NONE),
+        21 => row(21, 0, NONE, NONE, NONE, LISTED, NONE),
+        22 => row(22, 0, NONE, LISTED, NONE, LISTED, NONE),
+        23 => row(23, 0, NONE, LISTED, NONE, LISTED, NONE),
+        24 => row(24, 0, NONE, LISTED, NONE, LISTED, NONE),
+        25 => row(25, 0, NONE, NONE, NONE, NONE, NONE),
+        26 => row(26, 0, NONE, NONE, OPT, NONE, NONE),
+        27 => row(27, 0, NONE, NONE, NONE, LISTED, LISTED),
+        28 => row(28, 0, NONE, LISTED, LISTED, NONE, NONE),
+        29 => row(29, 0, NONE, NONE, NONE, LISTED, NONE),
+        30 => row(30, 3, LISTED, OPT, OPT, MARKED, MARKED),
+        31 => row(31, 0, LISTED, NONE, NONE, LISTED, NONE),
+        32 => row(32, 0, LISTED, NONE, NONE, NONE, NONE),
+        33 => row(33, 0, LISTED, LISTED, NONE, NONE, NONE),
+        34 => row(34, 0, NONE, LISTED, NONE, NONE, NONE),
+        40 => row(40, 0, LISTED, NONE, NONE, LISTED, NONE),
+        41 => row(41, 0, LISTED, NONE, NONE, LISTED, LISTED),
+        42 => row(42, 0, LISTED, NONE, NONE, LISTED, NONE),
+        43 => row(43, 0, LISTED, NONE, NONE, NONE, NONE),
+        _ => row(0, 0, NONE, NONE, NONE, NONE, NONE),
+    }
+}
