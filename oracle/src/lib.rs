@@ -14,6 +14,7 @@ pub mod print;
 pub mod random;
 pub mod record;
 pub mod reply;
+pub mod stored;
 pub mod verify;
 
 /// The syntax tree of google/pdl, included as it was published.

@@ -7,6 +7,7 @@ use oracle::compare::Comparison;
 use oracle::coverage::{Coverage, WANTED};
 use oracle::generate::{generate, generate_small};
 use oracle::print::printed;
+use oracle::stored::{stored, Part};
 use oracle::verify::{silence_panics, verify, Verified};
 use std::io::{Read, Write};
 use std::path::Path;
@@ -19,6 +20,8 @@ const USAGE: &str = "usage:
   oracle coverage COUNT [--seed S] [--small N]     how often cases reach each reply and code
   oracle verify COUNT [--seed S]                   the Rust panics exactly on Unfit and Loose
   oracle cases COUNT MAXRECORDS [--seed S]         small cases as text
+  oracle stored PART COUNT DIRECTORY [--seed S]    stdin and stdout of a program that replays PART
+                                                   (layout, scope)
   oracle bench                                     the time that the Rust passes take";
 
 /// Where differences between a program and the oracle are saved.
@@ -82,6 +85,7 @@ fn run(arguments: &[String]) -> Result<ExitCode, String> {
         "coverage" => run_coverage(&Arguments::parse(rest, &["--seed", "--small"])?),
         "verify" => run_verify(&Arguments::parse(rest, &["--seed"])?),
         "cases" => run_cases(&Arguments::parse(rest, &["--seed"])?),
+        "stored" => run_stored(&Arguments::parse(rest, &["--seed"])?),
         "bench" => run_bench(&Arguments::parse(rest, &[])?),
         _ => Err(format!("unknown command `{command}`\n{USAGE}")),
     }
@@ -177,6 +181,21 @@ fn run_cases(arguments: &Arguments) -> Result<ExitCode, String> {
         let text = case_text(seed, most_records);
         out.write_all(text.as_bytes()).map_err(|error| error.to_string())?;
     }
+    Ok(ExitCode::SUCCESS)
+}
+
+fn run_stored(arguments: &Arguments) -> Result<ExitCode, String> {
+    let [part, count, directory] = arguments.expect()?;
+    let part = Part::named(part).ok_or(format!("unknown part `{part}`\n{USAGE}"))?;
+    let made = stored(part, number(count)? as usize, arguments.option("--seed", 0));
+    let directory = Path::new(directory);
+    let write = |name: &str, bytes: &[u8]| {
+        let path = directory.join(name);
+        std::fs::write(&path, bytes).map_err(|error| format!("{}: {error}", path.display()))
+    };
+    write("stdin", &made.input)?;
+    write("stdout", made.output.as_bytes())?;
+    println!("{} cases, {} bytes", made.output.lines().count(), made.input.len());
     Ok(ExitCode::SUCCESS)
 }
 

@@ -61,7 +61,8 @@ fn keeps_row(w: Row, r: Record) -> bool
                 & (name_fits(w.second, r.second)
                     & (name_fits(w.third, r.third)
                         & (number_fits(w.one, width, r.one)
-                            & (number_fits(w.two, count, r.two) & (key_fits(r) & array_fits(r))))))))
+                            & (number_fits(w.two, count, r.two)
+                                & (key_fits(r) & array_fits(r))))))))
 }
 
 // Whether a constraint may stand behind records of kinds o and q.

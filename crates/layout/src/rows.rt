@@ -5,8 +5,11 @@ ghost use Rattle.rules.specs.Layouts.{row, rowOf};
 
 // A name or number that a kind doesn't list, or lists; a name that is opt; a number under its mark.
 const NONE: u8 = 0;
+
 const LISTED: u8 = 1;
+
 const OPT: u8 = 2;
+
 const MARKED: u8 = 2;
 
 fn row(kind: u8, marks: u8, name: u8, second: u8, third: u8, one: u8, two: u8) -> Row

@@ -1,0 +1,19 @@
+-- `layout_replay::run` meets its contract. Assumes nothing.
+use borrow.Author.Needs.{needs}
+use mathlib.Core.Path.{_≡_}
+use lib.ListN.{length}
+use Rattle.layout_replay.proofs.run.Statement.{statement}
+use Rattle.layout_replay.proofs.run.Tie as tie
+
+abbrev Inv-loop : tie.InvT-loop
+Inv-loop input₀ turns₀ input turns = length input ≡ length input₀
+
+abbrev μ-loop : tie.MeasureT-loop
+μ-loop input₀ turns₀ input turns = turns
+
+pub run-spec : {M : Type 1} → statement M
+run-spec =
+    tie.close
+    (tie.spec
+    Inv-loop μ-loop (λ c. search needs) (λ c κs. search needs) (λ c. search needs) (λ c. search needs) (λ c. search needs)
+    (λ c. search needs) (λ c. search needs) (λ c. search needs) (λ c. search needs))

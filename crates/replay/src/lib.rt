@@ -1,0 +1,83 @@
+// What the programs that replay stored answers share: a stored case read from standard input, a digest, a number printed.
+// A case is three numbers of four bytes (the lengths of the input, of the table buffer and of the fault buffer) and the input.
+use libc::STDIN_FILENO;
+use libc::STDOUT_FILENO;
+ghost use mathlib.Core.Path.{_≡_};
+ghost use Prim.Native.Nat.{_<_, _≤_};
+ghost use lib.ListN.{length};
+ghost use Rattle.replay.specs.Cases.{Fits};
+
+// The lengths of a case whose input stands at the start of the buffer, or the end of the stored cases.
+pub enum Next {
+    Case(usize, usize, usize),
+    End,
+}
+
+// The longest input: one record more than a table may have, and a byte.
+pub fn input_buffer() -> [u8; 64041]
+    ensures { λ r. ⌜ 64041 ≡ length r ⌝ }
+{
+    [0; 64041]
+}
+
+// A table or fault buffer as large as the program's.
+pub fn buffer() -> [u8; 64000]
+    ensures { λ r. ⌜ 64000 ≡ length r ⌝ }
+{
+    [0; 64000]
+}
+
+// Reads the next case. A case that is cut short or too long for the buffers ends the replay, so that the output differs.
+pub fn next_case(input: &mut [u8]) -> Next
+    ensures { λ r. ⌜ Fits (length (now (input .exit))) r ⌝ }
+{
+    let mut head = [0u8; 12];
+    let n = io::read_full(STDIN_FILENO, &mut head);
+    if n < 12 {
+        return Next::End;
+    }
+    let size = table::number4(&head, 0) as usize;
+    let table = table::number4(&head, 4) as usize;
+    let faults = table::number4(&head, 8) as usize;
+    if input.len() < size || 64000 < table || 64000 < faults {
+        return Next::End;
+    }
+    let m = io::read_full(STDIN_FILENO, &mut input[..size]);
+    if m < size {
+        return Next::End;
+    }
+    Next::Case(size, table, faults)
+}
+
+fn wide(x: u8) -> u64
+    ensures { λ r. ⌜ r < 256 ⌝ }
+{
+    x as u64
+}
+
+// A digest of bytes, as the oracle makes it.
+pub fn digest(s: &[u8]) -> u64 {
+    let mut sum: u64 = 7;
+    let mut i: usize = 0;
+    while i < s.len() {
+        sum = (sum * 31 + wide(s[i])) % 0x1_0000_0000;
+        i += 1;
+    }
+    sum
+}
+
+// Fills a buffer with 7, so that a byte written too many shows.
+pub fn fill(s: &mut [u8]) {
+    let mut i: usize = 0;
+    while i < s.len() {
+        s[i] = 7;
+        i += 1;
+    }
+}
+
+// A number and a byte behind it.
+pub fn print(n: u64, end: u8) {
+    io::print_decimal(STDOUT_FILENO, n);
+    let text = [end];
+    io::write_all(STDOUT_FILENO, &text);
+}
