@@ -1,0 +1,51 @@
+// The passes that find faults place by place: pass 1, and passes 3 to 9 on the listed order.
+mod scope;
+
+use faults::Finding;
+use rules::Tally;
+ghost use mathlib.Core.Path.{_≡_};
+ghost use Prim.Native.Nat.{_+_, _^_, _<_, _≤_};
+ghost use Rattle.rules.specs.Table.{decode};
+ghost use Rattle.rules.specs.Faults.{log, logged};
+ghost use Rattle.rules.specs.Scopes.{pass1};
+ghost use Rattle.faults.specs.Notes.{findings, notedAll};
+ghost use Rattle.checks.specs.Passes.{passAt, passFaults};
+
+// What a pass finds at a place.
+fn finding(pass: u8, t: &[u8], p: usize) -> Finding
+    ensures { λ r. ⌜ findings r ≡ passAt pass (decode (now (t .entry))) p ⌝ }
+{
+    match pass {
+        1 => scope::at_place(t, p),
+        _ => Finding::Fine,
+    }
+}
+
+// Notes what a pass finds at a place.
+fn note_at(pass: u8, t: &[u8], p: usize, tally: Tally, buffer: &mut [u8]) -> Tally
+    requires { ⌜ tally .total + 2 < 2 ^ 64 ⌝ }
+    ensures { λ r. ⌜ (log r (now (buffer .exit)) ≡ notedAll (log tally (now (buffer .entry))) (passAt pass (decode (now (t .entry))) p)) × (r .total ≤ tally .total + 2) ⌝ }
+{
+    faults::note_found(tally, buffer, finding(pass, t, p))
+}
+
+// All faults of a pass.
+pub fn run(pass: u8, t: &[u8], buffer: &mut [u8]) -> Tally
+    ensures { λ r. ⌜ log r (now (buffer .exit)) ≡ logged (now (buffer .entry)) (passFaults pass (decode (now (t .entry)))) ⌝ }
+{
+    let n = table::count(t);
+    let mut tally = faults::no_faults();
+    let mut p = 0;
+    while p < n {
+        tally = note_at(pass, t, p, tally, buffer);
+        p += 1;
+    }
+    tally
+}
+
+// All faults of pass 1.
+pub fn scope_new(t: &[u8], buffer: &mut [u8]) -> Tally
+    ensures { λ r. ⌜ log r (now (buffer .exit)) ≡ logged (now (buffer .entry)) (pass1 (decode (now (t .entry)))) ⌝ }
+{
+    run(1, t, buffer)
+}
