@@ -7,7 +7,7 @@ use oracle::compare::Comparison;
 use oracle::coverage::{Coverage, WANTED};
 use oracle::generate::{generate, generate_small};
 use oracle::print::printed;
-use oracle::stored::{stored, Part};
+use oracle::stored::{Part, Stored};
 use oracle::verify::{silence_panics, verify, Verified};
 use std::io::{Read, Write};
 use std::path::Path;
@@ -20,8 +20,8 @@ const USAGE: &str = "usage:
   oracle coverage COUNT [--seed S] [--small N]     how often cases reach each reply and code
   oracle verify COUNT [--seed S]                   the Rust panics exactly on Unfit and Loose
   oracle cases COUNT MAXRECORDS [--seed S]         small cases as text
-  oracle stored PART COUNT DIRECTORY [--seed S]    stdin and stdout of a program that replays PART
-                                                   (layout, scope)
+  oracle stored DIRECTORY PART=COUNT.. [--seed S]  stdin and stdout of the program that replays parts
+                                                   of the analyzer (layout, scope)
   oracle bench                                     the time that the Rust passes take";
 
 /// Where differences between a program and the oracle are saved.
@@ -185,12 +185,15 @@ fn run_cases(arguments: &Arguments) -> Result<ExitCode, String> {
 }
 
 fn run_stored(arguments: &Arguments) -> Result<ExitCode, String> {
-    let [part, count, directory] = arguments.expect()?;
-    let part = Part::named(part).ok_or(format!("unknown part `{part}`\n{USAGE}"))?;
-    let made = stored(part, number(count)? as usize, arguments.option("--seed", 0));
-    let directory = Path::new(directory);
+    let (directory, parts) = arguments.plain.split_first().ok_or(USAGE)?;
+    let mut made = Stored::default();
+    for part in parts {
+        let (name, count) = part.split_once('=').ok_or(USAGE)?;
+        let part = Part::named(name).ok_or(format!("unknown part `{name}`\n{USAGE}"))?;
+        made.add(part, number(count)? as usize, arguments.option("--seed", 0));
+    }
     let write = |name: &str, bytes: &[u8]| {
-        let path = directory.join(name);
+        let path = Path::new(directory).join(name);
         std::fs::write(&path, bytes).map_err(|error| format!("{}: {error}", path.display()))
     };
     write("stdin", &made.input)?;

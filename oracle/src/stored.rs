@@ -24,6 +24,14 @@ impl Part {
         }
     }
 
+    /// The number that the crate `replay` knows it by.
+    fn number(self) -> u32 {
+        match self {
+            Part::Layout => 1,
+            Part::Scope => 2,
+        }
+    }
+
     /// Cases longer than this are left out, so that the stored file stays small.
     const LONGEST: usize = 2_400;
 
@@ -92,6 +100,7 @@ pub struct Stored {
 
 impl Stored {
     fn push(&mut self, part: Part, case: &Case, answer: &Answer) {
+        self.input.extend_from_slice(&part.number().to_le_bytes());
         for length in [case.input.len(), case.table_len, case.fault_len] {
             self.input.extend_from_slice(&(length as u32).to_le_bytes());
         }
@@ -100,27 +109,27 @@ impl Stored {
     }
 }
 
-/// `count` cases from a seed on, of which at most a third show nothing of the part. Call it on a deep stack.
-pub fn stored(part: Part, count: usize, first_seed: u64) -> Stored {
-    let mut stored = Stored::default();
-    for case in part.fixed() {
-        stored.push(part, &case, &answer(&case.input, case.table_len));
-    }
-    let (mut taken, mut quiet, mut seed) = (0, 0, first_seed);
-    while taken < count {
-        let case = generate(seed);
-        seed += 1;
-        if case.input.len() > Part::LONGEST {
-            continue;
+impl Stored {
+    /// Adds `count` cases from a seed on, of which at most a third get another part's reply. Call it on a deep stack.
+    pub fn add(&mut self, part: Part, count: usize, first_seed: u64) {
+        for case in part.fixed() {
+            self.push(part, &case, &answer(&case.input, case.table_len));
         }
-        let answer = answer(&case.input, case.table_len);
-        let speaks = part.speaks(answer.reply);
-        if !part.runs(answer.reply) || (!speaks && quiet >= count / 3) {
-            continue;
+        let (mut taken, mut quiet, mut seed) = (0, 0, first_seed);
+        while taken < count {
+            let case = generate(seed);
+            seed += 1;
+            if case.input.len() > Part::LONGEST {
+                continue;
+            }
+            let answer = answer(&case.input, case.table_len);
+            let speaks = part.speaks(answer.reply);
+            if !part.runs(answer.reply) || (!speaks && quiet >= count / 3) {
+                continue;
+            }
+            self.push(part, &case, &answer);
+            taken += 1;
+            quiet += usize::from(!speaks);
         }
-        stored.push(part, &case, &answer);
-        taken += 1;
-        quiet += usize::from(!speaks);
     }
-    stored
 }

@@ -1,15 +1,24 @@
-// What the programs that replay stored answers share: a stored case read from standard input, a digest, a number printed.
-// A case is three numbers of four bytes (the lengths of the input, of the table buffer and of the fault buffer) and the input.
+// Stored cases, read from standard input, and what is printed of them.
+// A case is four numbers of four bytes (the part of the analyzer that it is for, and the lengths of the input, of the table buffer and
+// of the fault buffer) and the input.
 use libc::STDIN_FILENO;
 use libc::STDOUT_FILENO;
 ghost use mathlib.Core.Path.{_≡_};
 ghost use Prim.Native.Nat.{_<_, _≤_};
 ghost use lib.ListN.{length};
-ghost use Rattle.replay.specs.Cases.{Fits};
+ghost use Rattle.stored.specs.Cases.{Fits};
 
-// The lengths of a case whose input stands at the start of the buffer, or the end of the stored cases.
+// What a case is for, and its lengths.
+pub struct Case {
+    pub part: u32,
+    pub input: usize,
+    pub table: usize,
+    pub faults: usize,
+}
+
+// A case whose input stands at the start of the buffer, or the end of the stored cases.
 pub enum Next {
-    Case(usize, usize, usize),
+    Read(Case),
     End,
 }
 
@@ -31,14 +40,15 @@ pub fn buffer() -> [u8; 64000]
 pub fn next_case(input: &mut [u8]) -> Next
     ensures { λ r. ⌜ Fits (length (now (input .exit))) r ⌝ }
 {
-    let mut head = [0u8; 12];
+    let mut head = [0u8; 16];
     let n = io::read_full(STDIN_FILENO, &mut head);
-    if n < 12 {
+    if n < 16 {
         return Next::End;
     }
-    let size = table::number4(&head, 0) as usize;
-    let table = table::number4(&head, 4) as usize;
-    let faults = table::number4(&head, 8) as usize;
+    let part = table::number4(&head, 0);
+    let size = table::number4(&head, 4) as usize;
+    let table = table::number4(&head, 8) as usize;
+    let faults = table::number4(&head, 12) as usize;
     if input.len() < size || 64000 < table || 64000 < faults {
         return Next::End;
     }
@@ -46,7 +56,12 @@ pub fn next_case(input: &mut [u8]) -> Next
     if m < size {
         return Next::End;
     }
-    Next::Case(size, table, faults)
+    Next::Read(Case {
+        part,
+        input: size,
+        table,
+        faults,
+    })
 }
 
 fn wide(x: u8) -> u64

@@ -1,9 +1,9 @@
--- `replay::digest` meets its contract. Assumes nothing.
+-- `stored::digest` meets its contract. Assumes nothing.
 use borrow.Author.Needs.{needs}
 use Prim.Native.Nat.{_<_, _≤_, _-_}
 use lib.ListN.{length}
-use Rattle.replay.proofs.digest.Statement.{statement}
-use Rattle.replay.proofs.digest.Tie as tie
+use Rattle.stored.proofs.digest.Statement.{statement}
+use Rattle.stored.proofs.digest.Tie as tie
 
 abbrev Inv-loop : tie.InvT-loop
 Inv-loop s sum₀ i₀ sum i = (sum < 4294967296) × (i ≤ length s)
