@@ -21,7 +21,7 @@ const USAGE: &str = "usage:
   oracle verify COUNT [--seed S]                   the Rust panics exactly on Unfit and Loose
   oracle cases COUNT MAXRECORDS [--seed S]         small cases as text
   oracle stored DIRECTORY PART=COUNT.. [--seed S]  stdin and stdout of the program that replays parts
-                                                   of the analyzer (layout, scope)
+                                                   of the analyzer (layout, scope, order, checks)
   oracle bench                                     the time that the Rust passes take";
 
 /// Where differences between a program and the oracle are saved.
@@ -199,6 +199,8 @@ fn run_stored(arguments: &Arguments) -> Result<ExitCode, String> {
     write("stdin", &made.input)?;
     write("stdout", made.output.as_bytes())?;
     println!("{} cases, {} bytes", made.output.lines().count(), made.input.len());
+    let codes: Vec<String> = made.codes.iter().map(|(code, n)| format!("{code}: {n}")).collect();
+    println!("tables by fault code: {}", codes.join(", "));
     Ok(ExitCode::SUCCESS)
 }
 

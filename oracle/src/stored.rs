@@ -1,27 +1,40 @@
 //! Stored cases with the oracle's answers, which the programs of the gate replay where no Rust is at hand.
 
-use crate::answer::{answer, Answer};
+use crate::analyzer::passes;
+use crate::answer::{answer, Answer, PROGRAM_BUFFER};
 use crate::cases::FILLER;
+use crate::convert::{to_file, to_table};
+use crate::fault::FAULT_BYTES;
 use crate::generate::{generate, Case};
+use crate::layout;
+use crate::record::Record;
 use crate::reply::Reply;
+use std::collections::BTreeMap;
 
-/// What a replaying program runs on its cases.
+/// What the crate `replay` runs on a case.
 #[derive(Clone, Copy, Debug, PartialEq, Eq)]
 pub enum Part {
     /// The layout's rows.
     Layout,
-    /// Pass 1 on tables of sound layout.
+    /// Pass 1, on tables of sound layout.
     Scope,
+    /// Pass 2, on tables without faults in pass 1.
+    Order,
+    /// Passes 3 to 9, on tables without faults in passes 1 and 2.
+    Checks,
 }
 
 impl Part {
+    const ALL: [(&'static str, Part); 4] = [
+        ("layout", Part::Layout),
+        ("scope", Part::Scope),
+        ("order", Part::Order),
+        ("checks", Part::Checks),
+    ];
+
     /// The part of a name on the command line.
     pub fn named(name: &str) -> Option<Part> {
-        match name {
-            "layout" => Some(Part::Layout),
-            "scope" => Some(Part::Scope),
-            _ => None,
-        }
+        Part::ALL.into_iter().find(|&(other, _)| other == name).map(|(_, part)| part)
     }
 
     /// The number that the crate `replay` knows it by.
@@ -29,30 +42,47 @@ impl Part {
         match self {
             Part::Layout => 1,
             Part::Scope => 2,
+            Part::Order => 3,
+            Part::Checks => 4,
         }
     }
-
-    /// Cases longer than this are left out, so that the stored file stays small.
-    const LONGEST: usize = 2_400;
 
     /// Whether a reply is one that this part gives.
-    fn speaks(self, reply: Reply) -> bool {
-        match self {
-            Part::Layout => reply.row() < 3,
-            Part::Scope => matches!(reply, Reply::Faulty(1, _)),
+    fn gives(self, reply: Reply) -> bool {
+        match (self, reply) {
+            (Part::Layout, reply) => reply.row() < 3,
+            (Part::Scope, Reply::Faulty(pass, _)) => pass == 1,
+            (Part::Order, Reply::Faulty(pass, _)) => pass == 2,
+            (Part::Checks, Reply::Faulty(pass, _)) => pass >= 3,
+            _ => false,
         }
     }
 
-    /// Whether the part can run on the table at all.
-    fn runs(self, reply: Reply) -> bool {
-        self == Part::Layout || reply.row() >= 3
+    /// Whether the part is reached by a table with this reply.
+    fn is_reached(self, reply: Reply) -> bool {
+        match reply {
+            Reply::Uneven | Reply::TooLong | Reply::Malformed(_) => self == Part::Layout,
+            Reply::Faulty(pass, _) => u32::from(pass.min(3)) + 1 >= self.number(),
+            _ => true,
+        }
+    }
+
+    /// One in how many cases may pass the part without a reply of its own.
+    fn quiet_share(self) -> usize {
+        match self {
+            Part::Layout | Part::Scope => 3,
+            Part::Order => 2,
+            Part::Checks => 10,
+        }
     }
 
     /// The line that the program prints for a case.
     fn line(self, case: &Case, answer: &Answer) -> String {
         match self {
             Part::Layout => layout_line(answer.reply),
-            Part::Scope => faults_line(1, case, answer),
+            Part::Scope => format!("{}\n", faults_kept(self, case, answer)),
+            Part::Order => order_line(case, answer),
+            Part::Checks => checks_line(case, answer),
         }
     }
 
@@ -75,15 +105,31 @@ fn layout_line(reply: Reply) -> String {
     }
 }
 
-/// Faults kept, faults found and the digest of the fault buffer, for one pass.
-fn faults_line(pass: u16, case: &Case, answer: &Answer) -> String {
-    let found = match answer.reply {
-        Reply::Faulty(faulty, total) if faulty == pass => total,
-        _ => 0,
-    };
+/// Faults kept, faults found and the digest of the fault buffer, for one part.
+fn faults_kept(part: Part, case: &Case, answer: &Answer) -> String {
+    let found = if part.gives(answer.reply) { answer.faults.len() } else { 0 };
     let (_, faults) = answer.buffers(case.table_len, case.fault_len, FILLER);
     let buffer = if found > 0 { faults } else { vec![FILLER; case.fault_len] };
-    format!("{} {found} {}\n", found.min(case.fault_len / 20), digest(&buffer))
+    format!("{} {found} {}", found.min(case.fault_len / FAULT_BYTES), digest(&buffer))
+}
+
+/// The faults, the number of listed records and the digest of a buffer with the listed table.
+fn order_line(case: &Case, answer: &Answer) -> String {
+    let table = layout::check(&case.input).expect("a sound table");
+    let listed = passes::order(&to_file(&table)).map(|listed| to_table(&listed));
+    let mut bytes: Vec<u8> = listed.iter().flatten().flat_map(Record::encode).collect();
+    let records = bytes.len() / 40;
+    bytes.resize(PROGRAM_BUFFER, FILLER);
+    format!("{} {records} {}\n", faults_kept(Part::Order, case, answer), digest(&bytes))
+}
+
+/// The pass that finds faults, or 0, and the faults.
+fn checks_line(case: &Case, answer: &Answer) -> String {
+    let pass = match answer.reply {
+        Reply::Faulty(pass, _) => pass,
+        _ => 0,
+    };
+    format!("{pass} {}\n", faults_kept(Part::Checks, case, answer))
 }
 
 /// A digest of bytes, as the crate `replay` makes it.
@@ -91,11 +137,16 @@ pub fn digest(bytes: &[u8]) -> u64 {
     bytes.iter().fold(7, |sum, &byte| (sum * 31 + u64::from(byte)) % (1 << 32))
 }
 
-/// The standard input and the expected output of a replaying program.
+/// Cases longer than this are left out, so that the stored file stays small.
+const LONGEST: usize = 1_600;
+
+/// The standard input and the expected output of the crate `replay`.
 #[derive(Default)]
 pub struct Stored {
     pub input: Vec<u8>,
     pub output: String,
+    /// In how many tables each fault code was found.
+    pub codes: BTreeMap<u16, usize>,
 }
 
 impl Stored {
@@ -106,11 +157,15 @@ impl Stored {
         }
         self.input.extend_from_slice(&case.input);
         self.output.push_str(&part.line(case, answer));
+        let mut codes: Vec<u16> = answer.faults.iter().map(|fault| fault.code).collect();
+        codes.sort_unstable();
+        codes.dedup();
+        for code in codes.into_iter().filter(|_| part.gives(answer.reply)) {
+            *self.codes.entry(code).or_default() += 1;
+        }
     }
-}
 
-impl Stored {
-    /// Adds `count` cases from a seed on, of which at most a third get another part's reply. Call it on a deep stack.
+    /// Adds `count` cases from a seed on, few of them without a reply of the part. Call it on a deep stack.
     pub fn add(&mut self, part: Part, count: usize, first_seed: u64) {
         for case in part.fixed() {
             self.push(part, &case, &answer(&case.input, case.table_len));
@@ -119,17 +174,17 @@ impl Stored {
         while taken < count {
             let case = generate(seed);
             seed += 1;
-            if case.input.len() > Part::LONGEST {
+            if case.input.len() > LONGEST {
                 continue;
             }
             let answer = answer(&case.input, case.table_len);
-            let speaks = part.speaks(answer.reply);
-            if !part.runs(answer.reply) || (!speaks && quiet >= count / 3) {
+            let is_quiet = !part.gives(answer.reply);
+            if !part.is_reached(answer.reply) || (is_quiet && quiet >= count / part.quiet_share()) {
                 continue;
             }
             self.push(part, &case, &answer);
             taken += 1;
-            quiet += usize::from(!speaks);
+            quiet += usize::from(is_quiet);
         }
     }
 }

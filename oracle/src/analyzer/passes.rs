@@ -10,6 +10,12 @@ pub fn check(file: &File) -> Result<File, (u16, Diagnostics)> {
     Ok(listed)
 }
 
+/// Runs pass 2 on a file with unique names: the file in listed order, or the faults.
+pub fn order(file: &File) -> Result<File, Diagnostics> {
+    let scope = Scope::new(file)?;
+    check_decl_identifiers(file, &scope)
+}
+
 /// Runs passes 3 to 9 on the listed file.
 fn check_listed(listed: &File) -> Result<(), (u16, Diagnostics)> {
     let scope = Scope::new(listed).expect("pass 1 found the names unique");
