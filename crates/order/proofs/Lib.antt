@@ -1,0 +1,4 @@
+pub mod Bounds
+pub mod Ready
+pub mod Accepts
+pub mod Sorted

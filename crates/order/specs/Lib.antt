@@ -1,0 +1,2 @@
+pub mod Reachability
+pub mod Contract

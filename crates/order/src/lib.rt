@@ -1,0 +1,116 @@
+// Pass 2: declarations are visited depth first, what they refer to is checked, and each is listed after all that it follows.
+pub mod references;
+
+use references::field_reference;
+use references::own_reference;
+use references::root_reference;
+use rules::Reference;
+use rules::Tally;
+ghost use mathlib.Core.Path.{_≡_};
+ghost use Prim.Native.Nat.{ℕ, _+_, _*_, _-_, _^_, _≤_, _<_};
+ghost use lib.ListN.{length, getD, set, replicate};
+ghost use Rattle.rules.specs.Table.{decode, at};
+ghost use Rattle.rules.specs.Faults.{single, log};
+ghost use Rattle.rules.specs.DeclIdentifiers.{visited};
+ghost use Rattle.faults.specs.Notes.{noted};
+ghost use Rattle.order.specs.Contract.{memberAt, Ready, Visited, Walked, Held};
+
+// How many places are listed, and the faults found.
+pub struct Progress {
+    pub listed: usize,
+    pub tally: Tally,
+}
+
+// Whether a record that is no declaration stands at p.
+fn member_at(t: &[u8], p: usize) -> bool
+    ensures { λ r. ⌜ r ≡ memberAt (decode (now (t .entry))) p ⌝ }
+{
+    let k = table::kind(t, p);
+    let n = table::count(t);
+    (p < n) & !((1 <= k) & (k <= 7))
+}
+
+// One fault more, at the record at p.
+fn note(t: &[u8], buffer: &mut [u8], a: Progress, code: u16, p: usize) -> Progress
+    requires { ⌜ a .tally .total + 1 < 2 ^ 64 ⌝ }
+    ensures { λ r. ⌜ (r .listed ≡ a .listed) × (log (r .tally) (now (buffer .exit)) ≡ noted (log (a .tally) (now (buffer .entry))) (single code (at (decode (now (t .entry))) p))) ⌝ }
+{
+    let f = faults::single(code, table::at(t, p));
+    let before = a.tally;
+    let tally = faults::note(before, buffer, f);
+    Progress {
+        listed: a.listed,
+        tally,
+    }
+}
+
+// Lists the place d.
+fn list(d: usize, marks: &mut [u8], places: &mut [u16], a: Progress) -> Progress
+    requires { ⌜ (d < length (now marks)) × (d < 65536) × (a .listed < length (now places)) ⌝ }
+    ensures { λ r. ⌜ (r .listed ≡ a .listed + 1) × (r .tally ≡ a .tally) × (now (marks .exit) ≡ set (now (marks .entry)) d 2) × (now (places .exit) ≡ set (now (places .entry)) (a .listed) d) ⌝ }
+{
+    let i = a.listed;
+    let tally = a.tally;
+    marks[d] = 2;
+    places[i] = d as u16;
+    Progress {
+        listed: i + 1,
+        tally,
+    }
+}
+
+// Visits the declaration at d: what its fields refer to, then its parent, then d is listed.
+fn visit(
+    t: &[u8],
+    d: usize,
+    marks: &mut [u8],
+    places: &mut [u16],
+    buffer: &mut [u8],
+    a: Progress,
+) -> Progress
+    requires { ⌜ d < length (decode (now t)) ⌝ }
+    requires { ⌜ Ready (decode (now t)) (now marks) (now places) (now buffer) a 1 0 ⌝ }
+    ensures { λ z. ⌜ Visited (decode (now (t .entry))) (Reference.Follow d) (now (marks .entry)) (now (places .entry)) (now (buffer .entry)) a (now (marks .exit)) (now (places .exit)) (now (buffer .exit)) z ⌝ }
+{
+    let m = marks[d];
+    if m == 0 {
+        marks[d] = 1;
+        let b = walk(t, d + 1, marks, places, buffer, a);
+        let r = own_reference(t, d);
+        let g = match r {
+            Reference::Follow(e) => visit(t, e, marks, places, buffer, b),
+            Reference::Wrong(code, p) => note(t, buffer, b, code, p),
+            Reference::Nowhere => b,
+        };
+        list(d, marks, places, g)
+    } else if m == 1 {
+        note(t, buffer, a, 2, d)
+    } else {
+        a
+    }
+}
+
+// Visits what the fields from p on refer to, up to the next declaration.
+fn walk(
+    t: &[u8],
+    p: usize,
+    marks: &mut [u8],
+    places: &mut [u16],
+    buffer: &mut [u8],
+    a: Progress,
+) -> Progress
+    requires { ⌜ Ready (decode (now t)) (now marks) (now places) (now buffer) a (length (decode (now t)) - p) 0 ⌝ }
+    ensures { λ z. ⌜ Walked (decode (now (t .entry))) p (now (marks .entry)) (now (places .entry)) (now (buffer .entry)) a (now (marks .exit)) (now (places .exit)) (now (buffer .exit)) z ⌝ }
+{
+    if member_at(t, p) {
+        let r = field_reference(t, p);
+        let b = match r {
+            Reference::Follow(e) => visit(t, e, marks, places, buffer, a),
+            Reference::Wrong(code, q) => note(t, buffer, a, code, q),
+            Reference::Nowhere => a,
+        };
+        walk(t, p + 1, marks, places, buffer, b)
+    } else {
+        a
+    }
+}

@@ -1,0 +1,116 @@
+// What a record refers to by a name: nothing, a fault, or a declaration to visit.
+use rules::Found;
+use rules::Reference;
+use table::search::decl_named;
+ghost use mathlib.Core.Path.{_≡_};
+ghost use Rattle.rules.specs.Table.{decode};
+ghost use Rattle.rules.specs.DeclIdentifiers.{groupReference, typeReference, parentReference, testReference, fieldReference, ownReference, rootReference};
+
+// The Group field at p.
+fn group_reference(t: &[u8], p: usize, found: Found) -> Reference
+    ensures { λ r. ⌜ r ≡ groupReference (decode (now (t .entry))) p found ⌝ }
+{
+    match found {
+        Found::At(e) => {
+            if table::kind(t, e) == 6 {
+                Reference::Follow(e)
+            } else {
+                Reference::Wrong(4, p)
+            }
+        }
+        Found::Nothing => Reference::Wrong(3, p),
+    }
+}
+
+// The Typedef or typed array at p, which may be checked and not followed.
+fn type_reference(followed: bool, t: &[u8], p: usize, found: Found) -> Reference
+    ensures { λ r. ⌜ r ≡ typeReference followed (decode (now (t .entry))) p found ⌝ }
+{
+    match found {
+        Found::At(e) => {
+            if table::kind(t, e) == 4 {
+                Reference::Wrong(6, p)
+            } else if followed {
+                Reference::Follow(e)
+            } else {
+                Reference::Nowhere
+            }
+        }
+        Found::Nothing => Reference::Wrong(5, p),
+    }
+}
+
+// The parent of the declaration at d.
+fn parent_reference(t: &[u8], d: usize, found: Found) -> Reference
+    ensures { λ r. ⌜ r ≡ parentReference (decode (now (t .entry))) d found ⌝ }
+{
+    match found {
+        Found::At(e) => {
+            let k = table::kind(t, d);
+            if table::kind(t, e) == k {
+                Reference::Follow(e)
+            } else {
+                Reference::Wrong(8, d)
+            }
+        }
+        Found::Nothing => Reference::Wrong(7, d),
+    }
+}
+
+// The packet of the test at p.
+fn test_reference(t: &[u8], p: usize, found: Found) -> Reference
+    ensures { λ r. ⌜ r ≡ testReference (decode (now (t .entry))) p found ⌝ }
+{
+    match found {
+        Found::At(e) => {
+            if table::kind(t, e) == 4 {
+                Reference::Nowhere
+            } else {
+                Reference::Wrong(10, p)
+            }
+        }
+        Found::Nothing => Reference::Wrong(9, p),
+    }
+}
+
+// The record at p, as a field.
+pub fn field_reference(t: &[u8], p: usize) -> Reference
+    ensures { λ r. ⌜ r ≡ fieldReference (decode (now (t .entry))) p ⌝ }
+{
+    let r = table::at(t, p);
+    if r.kind == 34 {
+        return group_reference(t, p, decl_named(t, r.second));
+    }
+    if r.kind == 33 {
+        return type_reference(true, t, p, decl_named(t, r.second));
+    }
+    if (r.kind == 30) & !(r.second == 0) {
+        return type_reference(2 <= r.marks, t, p, decl_named(t, r.second));
+    }
+    Reference::Nowhere
+}
+
+// The declaration at d, by its parent's name.
+pub fn own_reference(t: &[u8], d: usize) -> Reference
+    ensures { λ r. ⌜ r ≡ ownReference (decode (now (t .entry))) d ⌝ }
+{
+    let r = table::at(t, d);
+    if ((4 <= r.kind) & (r.kind <= 5)) & !(r.second == 0) {
+        return parent_reference(t, d, decl_named(t, r.second));
+    }
+    Reference::Nowhere
+}
+
+// The record at p, in table order: a declaration is visited, a test is checked.
+pub fn root_reference(t: &[u8], p: usize) -> Reference
+    ensures { λ r. ⌜ r ≡ rootReference (decode (now (t .entry))) p ⌝ }
+{
+    let r = table::at(t, p);
+    if (1 <= r.kind) & (r.kind <= 6) {
+        return Reference::Follow(p);
+    }
+    if r.kind == 7 {
+        return test_reference(t, p, decl_named(t, r.second));
+    }
+    Reference::Nowhere
+}
