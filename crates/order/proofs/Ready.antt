@@ -360,10 +360,13 @@ module _ (rs : List Record) (m o f : List ℕ) (a : Progress) where
     pub ret-listed : ¬ (getD m d 0 ≡ 0) → ¬ (getD m d 0 ≡ 1) → Visited rs (Follow d) m o f a m o f a
     ret-listed e e′ = visited-listed rs m o f a d mark-in e e′
 
-  ret-nowhere : {r : Reference} → r ≡ Nowhere → Visited rs r m o f a m o f a
+  pub ret-follow : {r : Reference} {d : ℕ} {m′ o′ f′ : List ℕ} {z : Progress} → r ≡ Follow d → Visited rs (Follow d) m o f a m′ o′ f′ z → Visited rs r m o f a m′ o′ f′ z
+  ret-follow re v = rw re v
+
+  pub ret-nowhere : {r : Reference} → r ≡ Nowhere → Visited rs r m o f a m o f a
   ret-nowhere re = rw re (visited-nowhere rs m o f a)
 
-  ret-wrong : {r : Reference} {c p : ℕ} {f′ : List ℕ} {z : Progress} → r ≡ Wrong c p → Noted rs f a c p f′ z → Visited rs r m o f a m o f′ z
+  pub ret-wrong : {r : Reference} {c p : ℕ} {f′ : List ℕ} {z : Progress} → r ≡ Wrong c p → Noted rs f a c p f′ z → Visited rs r m o f a m o f′ z
   ret-wrong {r} {c} {p} {f′} {z} re e = rw re (visited-wrong rs m o f a c p f′ z e)
 
   -- a field stands at p

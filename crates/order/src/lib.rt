@@ -11,7 +11,7 @@ ghost use Prim.Native.Nat.{ℕ, _+_, _*_, _-_, _^_, _≤_, _<_};
 ghost use lib.ListN.{length, getD, set, replicate};
 ghost use Rattle.rules.specs.Table.{decode, at};
 ghost use Rattle.rules.specs.Faults.{single, log};
-ghost use Rattle.rules.specs.DeclIdentifiers.{visited};
+ghost use Rattle.rules.specs.DeclIdentifiers.{visited, rootReference};
 ghost use Rattle.faults.specs.Notes.{noted};
 ghost use Rattle.order.specs.Contract.{memberAt, Ready, Visited, Walked, Held};
 
@@ -113,4 +113,42 @@ fn walk(
     } else {
         a
     }
+}
+
+// Takes up what the record at p refers to: a declaration is visited, a test is checked.
+fn visit_root(
+    t: &[u8],
+    p: usize,
+    marks: &mut [u8],
+    places: &mut [u16],
+    buffer: &mut [u8],
+    a: Progress,
+) -> Progress
+    requires { ⌜ p < length (decode (now t)) ⌝ }
+    requires { ⌜ Ready (decode (now t)) (now marks) (now places) (now buffer) a 1 0 ⌝ }
+    ensures { λ z. ⌜ Visited (decode (now (t .entry))) (rootReference (decode (now (t .entry))) p) (now (marks .entry)) (now (places .entry)) (now (buffer .entry)) a (now (marks .exit)) (now (places .exit)) (now (buffer .exit)) z ⌝ }
+{
+    match root_reference(t, p) {
+        Reference::Follow(d) => visit(t, d, marks, places, buffer, a),
+        Reference::Wrong(code, q) => note(t, buffer, a, code, q),
+        Reference::Nowhere => a,
+    }
+}
+
+// Takes up what each record refers to, in table order. The first listed places of `places` are the order.
+fn visit_all(t: &[u8], marks: &mut [u8], places: &mut [u16], buffer: &mut [u8]) -> Progress
+    requires { ⌜ (length (decode (now t)) ≤ 1600) × (now marks ≡ replicate (length (decode (now t))) 0) × (length (decode (now t)) ≤ length (now places)) ⌝ }
+    ensures { λ r. ⌜ Held (decode (now (t .entry))) (now (places .entry)) (now (buffer .entry)) (visited (decode (now (t .entry)))) (now (marks .exit)) (now (places .exit)) (now (buffer .exit)) r ⌝ }
+{
+    let n = table::count(t);
+    let mut a = Progress {
+        listed: 0,
+        tally: faults::no_faults(),
+    };
+    let mut p = 0;
+    while p < n {
+        a = visit_root(t, p, marks, places, buffer, a);
+        p += 1;
+    }
+    a
 }

@@ -1,0 +1,34 @@
+-- `order::visit_root` meets its contract. Assumes nothing.
+use borrow.Author.Needs.{needs}
+use mathlib.Core.Path.{sym, _∙_}
+use Rattle.rules.specs.Table.{decode}
+use Rattle.order.proofs.Ready.{follow-in, within-root, call-note, ret-follow, ret-wrong, ret-nowhere}
+use Rattle.order.proofs.visit_root.Statement.{statement}
+use Rattle.order.proofs.visit_root.Tie as tie
+
+visit-requires : tie.Need-visit-requires
+visit-requires c κs =
+    let s = c .before .before .before .before .before .before .before .before .before .before .before in
+    let rs = decode (s .args .t .now) in
+    (follow-in rs (c .before .before .before .before .d .given .1) (rw (c .before .before .before .before .before .before .root-reference .ensures) (within-root rs (s .args .p) (s .pre .0))), s .pre .1)
+
+note-requires : tie.Need-note-requires
+note-requires c κs = call-note _ _ _ _ _ (c .before .before .before .before .before .before .before .before .before .pre .1)
+
+returns : tie.Need-returns
+returns c =
+    ret-follow _ _ _ _ _ (sym (c .before .before .before .before .before .before .before .before .before .before .before .before .before .root-reference .ensures) ∙ c .before .before .before .before .before .before .before .before .before .before .before .d .given .1) (c .before .before .before .before .before .before .visit .ensures)
+
+returns-2 : tie.Need-returns-2
+returns-2 c =
+    ret-wrong _ _ _ _ _ (sym (c .before .before .before .before .before .before .before .root-reference .ensures) ∙ c .before .before .before .before .before .code .given .1) (c .before .before .note .ensures)
+
+returns-3 : tie.Need-returns-3
+returns-3 c = ret-nowhere _ _ _ _ _ (sym (c .before .before .root-reference .ensures) ∙ c .enum-told .given .1)
+
+pub visit-root-spec : {M : Type 1} → statement M
+visit-root-spec =
+    tie.close
+    (tie.spec
+    (λ c κs. search needs) (λ c. search needs) visit-requires (λ c. search needs) note-requires (λ c. search needs)
+    (λ c. search needs) (λ c. search needs) (λ c. search needs) returns (λ c. search needs) returns-2 returns-3)
