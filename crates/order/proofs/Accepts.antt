@@ -13,7 +13,7 @@ use lib.Seq.{getD-set-same, getD-set-other, set-out}
 use Rattle.rules.specs.declared.Reference.{Reference}
 use Rattle.rules.specs.declared.Reference.the-variants.{Nowhere, Wrong, Follow}
 use Rattle.rules.specs.Visits.{unvisited, visitAll, PlaceFault, State, markOf, opened, noted, listed, resolve, walk, enter, visit}
-use Rattle.order.specs.Reachability.{Reaches, one, then, TopologicalOrder, Faultless}
+use Rattle.order.specs.Reachability.{Reaches, one, step, TopologicalOrder, Faultless}
 
 -- ---- a mark after a store
 
@@ -40,8 +40,8 @@ mark-opened (x ∷ l) (suc d) (suc i) e = ⊎-elim (λ z. inl (ap suc z)) inr (m
 -- ---- sequences of references
 
 pub reaches-on : {f : ℕ → List Reference} {d e x : ℕ} → Reaches f d e → List·Memᴰ (Follow x) (f e) → Reaches f d x
-reaches-on (one m) n = then m (one n)
-reaches-on (then m l) n = then m (reaches-on l n)
+reaches-on (one m) n = step m (one n)
+reaches-on (step m l) n = step m (reaches-on l n)
 
 -- ---- no fault
 

@@ -3,3 +3,7 @@ pub mod Ready
 pub mod Loop
 pub mod Accepts
 pub mod Sorted
+pub mod Promise
+pub mod Copies
+pub mod Room
+pub mod Checks

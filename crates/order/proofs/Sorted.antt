@@ -1,4 +1,4 @@
--- A pass that finds no fault lists the declarations in a right order, and they are sound. Assumes nothing.
+-- A pass that finds no fault lists the declarations in topological order, and they are faultless. Assumes nothing.
 use mathlib.Core.Path.{_≡_, refl, sym, _∙_, ap, subst}
 use mathlib.Core.Logic.{_⊎_, inl, inr, ⊎-elim}
 use mathlib.Core.Bool.{Bool, true, false}
@@ -15,7 +15,7 @@ use Rattle.rules.specs.declared.Reference.{Reference}
 use Rattle.rules.specs.declared.Reference.the-variants.{Nowhere, Wrong, Follow}
 use Rattle.rules.specs.Visits.{PlaceFault, State, markOf, opened, noted, listed, resolve, walk, enter, visit, unvisited, visitAll}
 use Rattle.order.specs.Reachability.{unvisitedCount}
-use Rattle.order.specs.Reachability.{Reaches, one, then, TopologicalOrder, Faultless}
+use Rattle.order.specs.Reachability.{Reaches, one, step, TopologicalOrder, Faultless}
 use Rattle.order.proofs.Bounds.{unvisited-set, unvisited-opened}
 
 -- ---- faults are only ever added
@@ -47,7 +47,7 @@ visit-adds (suc k) f d s e = enter-adds (eqb (markOf s d) 0) (eqb (markOf s d) 1
 -- ---- what a clean visit leaves
 
 -- listed one by one, each after all that it leads to, with no fault of its own
-data Ordered (f : ℕ → List Reference) : List ℕ → Type 0 where
+pub data Ordered (f : ℕ → List Reference) : List ℕ → Type 0 where
   none : Ordered f []
   more : {l : List ℕ} {d : ℕ} → Ordered f l → ((e : ℕ) → List·Memᴰ (Follow e) (f d) → List·Memᴰ e l)
       → ((c p : ℕ) → List·Memᴰ (Wrong c p) (f d) → ⊥) → (List·Memᴰ d l → ⊥) → Ordered f (l ++ (d ∷ []))
@@ -269,7 +269,7 @@ module _ {f : ℕ → List Reference} where
 
   reaches-in : {l : List ℕ} → Ordered f l → {d e : ℕ} → List·Memᴰ d l → Reaches f d e → List·Memᴰ e l
   reaches-in o {d} {e} m (one g) = closed-in o d e m g
-  reaches-in o {d} m (then {x = x} g w) = reaches-in o (closed-in o d x m g) w
+  reaches-in o {d} m (step {x = x} g w) = reaches-in o (closed-in o d x m g) w
 
   acyclic-in : {l : List ℕ} → Ordered f l → (d : ℕ) → List·Memᴰ d l → Reaches f d d → ⊥
   acyclic-in none d m w = List·Memᴰ·not-nil m
@@ -278,7 +278,7 @@ module _ {f : ℕ → List Reference} where
     where
       last-step : {e : ℕ} → Reaches f x e → List·Memᴰ e l
       last-step {e} (one g) = a e g
-      last-step (then {x = y} g w′) = reaches-in o (a y g) w′
+      last-step (step {x = y} g w′) = reaches-in o (a y g) w′
 
 -- ---- the theorem's other half
 
@@ -315,8 +315,12 @@ module _ (n : ℕ) (f : ℕ → List Reference) (roots : List Reference)
       })
       clean
 
-  pub right : TopologicalOrder f roots (visitAll n f roots .order)
-  right =
+  -- the places are listed in order
+  pub in-order : Ordered f (visitAll n f roots .order)
+  in-order = through .done .inv .ordered
+
+  pub topological : TopologicalOrder f roots (visitAll n f roots .order)
+  topological =
       let i = through .done .inv in
       record {
         each = λ d m. i .listed-in d (below d m) (through .all d m);
@@ -325,8 +329,8 @@ module _ (n : ℕ) (f : ℕ → List Reference) (roots : List Reference)
         after = after (i .ordered);
       }
 
-  pub sound : Faultless f roots
-  sound =
+  pub faultless : Faultless f roots
+  faultless =
       let i = through .done .inv in
       record {
         right-roots = through .right;

@@ -1,7 +1,7 @@
 -- What the contracts of the visits say: which state the lent slices hold, and what the records copied are.
 use mathlib.Core.Path.{_≡_}
 use mathlib.Core.Bool.{Bool, _&&_, not}
-use mathlib.Core.List.{List, [], _∷_, _++_, map}
+use mathlib.Core.List.{List, [], _∷_, _++_, map, List·Memᴰ}
 use Prim.Native.Nat.{ℕ, _+_, _*_, _-_, _^_, _<_, _≤_}
 use lib.Dec.{ltb}
 use lib.ListN.{length, take, drop}
@@ -10,15 +10,17 @@ use Rattle.rules.specs.Kinds.{isDecl}
 use Rattle.rules.specs.Table.{decode, at}
 use Rattle.rules.specs.Bytes.{written}
 use Rattle.rules.specs.Places.{memberCount}
-use Rattle.rules.specs.Faults.{log}
+use Rattle.rules.specs.Faults.{log, logged}
 use Rattle.rules.specs.Visits.{State, resolve, walk, visit}
-use Rattle.rules.specs.DeclIdentifiers.{references, fieldReferences, faultOf, order, ordered}
+use Rattle.rules.specs.DeclIdentifiers.{references, fieldReferences, faultOf, pass2, order, ordered, allRecords}
+use Rattle.rules.specs.Ordering.{Accepts}
 use Rattle.rules.specs.declared.Record.{Record}
 use Rattle.rules.specs.declared.Tally.{Tally}
 use Rattle.rules.specs.declared.Reference.{Reference}
 use Rattle.rules.specs.declared.Reference.the-variants.{Nowhere, Wrong, Follow}
 use Rattle.faults.specs.Notes.{none, notedAll}
 use Rattle.order.specs.declared.Progress.{Progress}
+use Rattle.order.specs.declared.Outcome.{Outcome}
 use Rattle.order.specs.Reachability.{unvisitedCount}
 
 -- a record stands at p, and it is no declaration
@@ -68,8 +70,19 @@ unfoldable pub allBytes : List ℕ → List ℕ → List ℕ
 allBytes t [] = []
 allBytes t (d ∷ ds) = declBytes t d ++ allBytes t ds
 
--- the n listed records stand at the start of the buffer out, which is unchanged behind them
+-- the declarations at these places stand in the table, and their records fit into a buffer
+pub record Placed (rs : List Record) (l out : List ℕ) : Type 0 where
+  pub within : (d : ℕ) → List·Memᴰ d l → d < length rs
+  pub fits : 40 * length (allRecords rs l) ≤ length out
+
+-- the n listed records stand at the start of the buffer, which is unchanged behind them
 pub record Ordered (t out out′ : List ℕ) (n : ℕ) : Type 0 where
   pub count : n ≡ length (ordered (decode t))
   pub bytes : out′ ≡ written out 0 (allBytes t (order (decode t)))
   pub records : decode (take (40 * n) out′) ≡ ordered (decode t)
+
+-- the faults of pass 2; if there are none, the listed table, else the buffer as it was
+pub record Checked (t buffer out buffer′ out′ : List ℕ) (r : Outcome) : Type 0 where
+  pub faults : log (r .tally) buffer′ ≡ logged buffer (pass2 (decode t))
+  pub accepted : Accepts (decode t) → Ordered t out out′ (r .records)
+  pub refused : ¬ (Accepts (decode t)) → out′ ≡ out

@@ -9,7 +9,7 @@ use Rattle.rules.specs.declared.Reference.the-variants.{Nowhere, Wrong, Follow}
 -- one or more followed references lead from d to e
 pub data Reaches (f : ℕ → List Reference) : ℕ → ℕ → Type 0 where
   one : {d e : ℕ} → List·Memᴰ (Follow e) (f d) → Reaches f d e
-  then : {d x e : ℕ} → List·Memᴰ (Follow x) (f d) → Reaches f x e → Reaches f d e
+  step : {d x e : ℕ} → List·Memᴰ (Follow x) (f d) → Reaches f x e → Reaches f d e
 
 -- l lists each declaration that the roots name once and nothing else, each after all that it follows
 pub record TopologicalOrder (f : ℕ → List Reference) (roots : List Reference) (l : List ℕ) : Type 0 where
