@@ -1,7 +1,7 @@
 -- What the visits leave, and the copy after them: the pass whole. Assumes nothing.
 use mathlib.Core.Path.{_≡_, refl, sym, _∙_, ap, subst}
 use mathlib.Core.List.{List, [], _∷_, map, List·Memᴰ}
-use Prim.Native.Nat.{ℕ, zero, suc, _+_, _*_, _<_, _≤_}
+use Prim.Native.Nat.{ℕ, zero, suc, _+_, _-_, _*_, _<_, _≤_}
 use native.Mathlib.Omega.{arith}
 use native.Mathlib.Nat.{zero-add}
 use lib.ListN.{length, take, drop, replicate, length-map}
@@ -98,3 +98,12 @@ module _ (t o₀ f₀ m o f : List ℕ) (a : Progress) (h : Held (decode t) o₀
           };
           refused = λ no. absurd (no accepts);
         }
+
+zeros : (n m : ℕ) → n ≤ m → take n (replicate {A = ℕ} m 0) ≡ replicate n 0
+zeros zero m h = refl
+zeros (suc n) zero h = absurd (omega arith)
+zeros (suc n) (suc m) h = ap (λ (l : List ℕ). 0 ∷ l) (zeros n m (omega arith))
+
+-- the first r of m marks of places not visited
+pub part-zeros : (r n m : ℕ) → r ≡ n → n ≤ m → take (r - 0) (replicate {A = ℕ} m 0) ≡ replicate n 0
+part-zeros r n m e h = let z : r - 0 ≡ n = omega arith in rw z (zeros n m h)
