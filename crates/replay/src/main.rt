@@ -1,5 +1,6 @@
 // Replays stored tables through parts of the analyzer: a line for each case says what the part answered.
 use rules::Layout;
+use rules::Tally;
 use stored::Case;
 use stored::Next;
 
@@ -17,24 +18,46 @@ fn print_layout(layout: Layout) {
 }
 
 // The faults kept, the faults found and the digest of the fault buffer.
+fn print_faults(tally: Tally, faults: &[u8], end: u8) {
+    stored::print(tally.kept as u64, b' ');
+    stored::print(tally.total as u64, b' ');
+    stored::print(stored::digest(faults), end);
+}
+
 fn print_scope(input: &[u8], faults: &mut [u8]) {
     stored::fill(faults);
     let tally = checks::scope_new(input, faults);
-    stored::print(tally.kept as u64, b' ');
-    stored::print(tally.total as u64, b' ');
-    stored::print(stored::digest(faults), b'\n');
+    print_faults(tally, faults, b'\n');
 }
 
-fn print_part(part: u32, input: &[u8], faults: &mut [u8]) {
+// The faults, the number of listed records and the digest of the buffer that holds them.
+fn print_order(input: &[u8], faults: &mut [u8], out: &mut [u8]) {
+    stored::fill(faults);
+    stored::fill(out);
+    if 1600 < table::count(input) {
+        return;
+    }
+    if out.len() < 64000 {
+        return;
+    }
+    let outcome = order::check_decl_identifiers(input, faults, out);
+    let tally = outcome.tally;
+    print_faults(tally, faults, b' ');
+    stored::print(outcome.records as u64, b' ');
+    stored::print(stored::digest(out), b'\n');
+}
+
+fn print_part(part: u32, input: &[u8], faults: &mut [u8], out: &mut [u8]) {
     match part {
         1 => print_layout(layout::check_layout(input)),
         2 => print_scope(input, faults),
+        3 => print_order(input, faults, out),
         _ => stored::print(0, b'?'),
     }
 }
 
 // One case; false at the end.
-fn one_case(input: &mut [u8], faults: &mut [u8]) -> bool {
+fn one_case(input: &mut [u8], faults: &mut [u8], out: &mut [u8]) -> bool {
     match stored::next_case(input) {
         Next::Read(case) => {
             let size = case.input;
@@ -45,16 +68,16 @@ fn one_case(input: &mut [u8], faults: &mut [u8]) -> bool {
             if faults.len() < room {
                 return false;
             }
-            print_part(case.part, &input[..size], &mut faults[..room]);
+            print_part(case.part, &input[..size], &mut faults[..room], out);
             true
         }
         Next::End => false,
     }
 }
 
-fn run(input: &mut [u8], faults: &mut [u8]) {
+fn run(input: &mut [u8], faults: &mut [u8], out: &mut [u8]) {
     let mut turns = u64::MAX;
-    while turns > 0 && one_case(input, faults) {
+    while turns > 0 && one_case(input, faults, out) {
         turns -= 1;
     }
 }
@@ -62,5 +85,6 @@ fn run(input: &mut [u8], faults: &mut [u8]) {
 fn main() {
     let mut input = stored::input_buffer();
     let mut faults = stored::buffer();
-    run(&mut input, &mut faults);
+    let mut out = stored::buffer();
+    run(&mut input, &mut faults, &mut out);
 }
