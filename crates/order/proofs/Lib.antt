@@ -7,3 +7,5 @@ pub mod Promise
 pub mod Copies
 pub mod Room
 pub mod Checks
+pub mod Stretches
+pub mod Groups

@@ -32,7 +32,7 @@ use Rattle.order.proofs.Sorted.{Ordered, in-order, topological, faultle
 
 -- ---- tests
 
-false-true : {A : Type 0} → false ≡ true → A
+pub false-true : {A : Type 0} → false ≡ true → A
 false-true q = let z : _≡_ {A = ℕ} 0 1 = cc in absurd (omega arith)
 
 or-false : (b c : Bool) → b || c ≡ false → (b ≡ false) × (c ≡ false)
@@ -41,13 +41,13 @@ or-false false c e = (refl, e)
 
 -- ---- the search for a name
 
-at-inj : {p q : ℕ} → At p ≡ At q → p ≡ q
+pub at-inj : {p q : ℕ} → At p ≡ At q → p ≡ q
 at-inj e = cc
 
-nothing-at : {A : Type 0} {q : ℕ} → Nothing ≡ At q → A
+pub nothing-at : {A : Type 0} {q : ℕ} → Nothing ≡ At q → A
 nothing-at e = let z : _≡_ {A = ℕ} 0 1 = cc in absurd (omega arith)
 
-first-is : (f : ℕ → Bool) (p k q : ℕ) → first f p k ≡ At q → f q ≡ true
+pub first-is : (f : ℕ → Bool) (p k q : ℕ) → first f p k ≡ At q → f q ≡ true
 unfolding first
 first-is f p zero q e = nothing-at e
 first-is f p (suc k) q e = go (first-is f (p + 1) k q) (f p) refl
@@ -56,7 +56,7 @@ first-is f p (suc k) q e = go (first-is f (p + 1) k q) (f p) refl
     go r true h = ap f (sym (at-inj (rw (first, h) at e))) ∙ h
     go r false h = r (rw (first, h) at e)
 
-first-some : (f : ℕ → Bool) (p k e : ℕ) → p ≤ e → e < p + k → f e ≡ true → (q : ℕ) × (first f p k ≡ At q)
+pub first-some : (f : ℕ → Bool) (p k e : ℕ) → p ≤ e → e < p + k → f e ≡ true → (q : ℕ) × (first f p k ≡ At q)
 unfolding first
 first-some f p zero e a b n = absurd (omega arith)
 first-some f p (suc k) e a b n = go (λ c. first-some f (p + 1) k e c (omega arith) n) (f p) refl

@@ -101,7 +101,7 @@ module _ (rs : List Record) where
           rw (first, h) (omega (arith, count-is p j (omega arith), ih, e))
       go ih false h = rw (first, h) (omega (arith, ih))
 
-  named-decl : (d : ℕ) → Declared rs d → isDecl (at rs d .kind) ≡ true
+  pub named-decl : (d : ℕ) → Declared rs d → isDecl (at rs d .kind) ≡ true
   named-decl d h =
       let b = and-true (leb 1 (at rs d .kind)) (leb (at rs d .kind) 6) (h .1) in
       rw (b .0, le-leb (at rs d .kind) 7 (let z = leb-true (at rs d .kind) 6 (b .1) in omega arith))

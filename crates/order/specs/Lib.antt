@@ -1,2 +1,3 @@
 pub mod Reachability
 pub mod Contract
+pub mod GroupsFirst

@@ -1,0 +1,69 @@
+-- The records of a declaration: its own comes first, no other declaration is among them, and each is as in the table. Assumes nothing.
+use mathlib.Core.Path.{_≡_, refl, sym, _∙_, ap, subst}
+use mathlib.Core.Bool.{Bool, true, false}
+use mathlib.Core.List.{List, [], _∷_, _++_}
+use Prim.Native.Nat.{ℕ, zero, suc, _+_, _-_, _<_, _≤_}
+use native.Mathlib.Omega.{arith}
+use native.Mathlib.Nat.{eq-or-lt-of-le, add-zero}
+use mathlib.Core.Logic.{⊎-elim}
+use lib.ListN.{length, getD, take, drop}
+use lib.Seq.{getD-take, getD-drop}
+use Rattle.rules.specs.Kinds.{isDecl}
+use Rattle.rules.specs.Table.{at, blank}
+use Rattle.rules.specs.Places.{first, holdsAt, firstFrom, memberCount}
+use Rattle.rules.specs.DeclIdentifiers.{declRecords}
+use Rattle.rules.specs.declared.Record.{Record}
+use Rattle.rules.specs.declared.Found.{Found}
+use Rattle.rules.specs.declared.Found.the-variants.{At, Nothing}
+use Rattle.rules.specs.declared.Target.the-variants.{Decl}
+use Rattle.order.proofs.Promise.{at-inj, nothing-at, false-true}
+use Rattle.order.proofs.Copies.{count-to, count-rest, decl-length}
+
+-- the test fails below what a search finds, and everywhere if it finds nothing
+pub first-before : (f : ℕ → Bool) (p k q i : ℕ) → first f p k ≡ At q → p ≤ i → i < q → f i ≡ false
+unfolding first
+first-before f p zero q i e a b = nothing-at e
+first-before f p (suc k) q i e a b = go (λ r c. first-before f (p + 1) k q i r c b) (f p) refl
+  where
+    go : (first f (p + 1) k ≡ At q → p + 1 ≤ i → f i ≡ false) → (c : Bool) → f p ≡ c → f i ≡ false
+    go ih true h = let z : p ≡ q = at-inj (rw (first, h) at e) in absurd (omega arith)
+    go ih false h = ⊎-elim (λ z. ap f (sym z) ∙ h) (λ z. ih (rw (first, h) at e) (omega arith)) (eq-or-lt-of-le a)
+
+pub first-none : (f : ℕ → Bool) (p k i : ℕ) → first f p k ≡ Nothing → p ≤ i → i < p + k → f i ≡ false
+unfolding first
+first-none f p zero i e a b = absurd (omega arith)
+first-none f p (suc k) i e a b = go (λ r c. first-none f (p + 1) k i r c (omega arith)) (f p) refl
+  where
+    go : (first f (p + 1) k ≡ Nothing → p + 1 ≤ i → f i ≡ false) → (c : Bool) → f p ≡ c → f i ≡ false
+    go ih true h = let z : At p ≡ Nothing = rw (first, h) at e in nothing-at (sym z)
+    go ih false h = ⊎-elim (λ z. ap f (sym z) ∙ h) (λ z. ih (rw (first, h) at e) (omega arith)) (eq-or-lt-of-le a)
+
+module _ (rs : List Record) (d : ℕ) (l : d < length rs) where
+  -- no declaration stands among the members
+  pub members-free : (i : ℕ) → d < i → i < d + (1 + memberCount rs d) → isDecl (at rs i .kind) ≡ false
+  members-free i a b = go (firstFrom rs Decl (d + 1)) refl
+    where
+      go : (f : Found) → firstFrom rs Decl (d + 1) ≡ f → isDecl (at rs i .kind) ≡ false
+      go (At e) h =
+          let c = count-to rs d e h in
+          let y = c .0 in
+          let z = c .1 in
+          first-before (holdsAt rs Decl) (d + 1) (length rs - (d + 1)) e i h (omega arith) (omega arith)
+      go Nothing h =
+          let z = count-rest rs d l h in
+          first-none (holdsAt rs Decl) (d + 1) (length rs - (d + 1)) i h (omega arith) (omega arith)
+
+  -- each record is as in the table
+  pub decl-at : (i : ℕ) → i < length (declRecords rs d) → at (declRecords rs d) i ≡ at rs (d + i)
+  unfolding at declRecords
+  decl-at i h =
+      getD-take (1 + memberCount rs d) (drop d rs) i blank (omega (arith, decl-length rs d l)) ∙ getD-drop d rs i blank
+
+  -- the first is the declaration's own
+  pub decl-own : at (declRecords rs d) 0 ≡ at rs d
+  decl-own = decl-at 0 (omega (arith, decl-length rs d l)) ∙ ap (at rs) (add-zero d)
+
+  -- no other is a declaration
+  pub decl-members : (i : ℕ) → 0 < i → i < length (declRecords rs d) → isDecl (at (declRecords rs d) i .kind) ≡ false
+  decl-members i a b =
+      rw (decl-at i b) (members-free (d + i) (omega arith) (omega (arith, decl-length rs d l)))
