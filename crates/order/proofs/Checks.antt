@@ -61,7 +61,7 @@ module _ (t o₀ f₀ m o f : List ℕ) (a : Progress) (h : Held (decode t) o₀
       record {
         faults = faults-logged;
         accepted = λ e. absurd (some-found (pass2 (decode t)) (omega (arith, total-is)) e);
-        refused = λ e. refl;
+        refused = λ e. (refl, refl);
       }
 
   module _ (z : a .tally .total ≤ 0) (few : length (decode t) ≤ 1600) (room : length (decode t) ≤ length o₀) where

@@ -81,8 +81,8 @@ pub record Ordered (t out out′ : List ℕ) (n : ℕ) : Type 0 where
   pub bytes : out′ ≡ written out 0 (allBytes t (order (decode t)))
   pub records : decode (take (40 * n) out′) ≡ ordered (decode t)
 
--- the faults of pass 2; if there are none, the listed table, else the buffer as it was
+-- the faults of pass 2; if there are none, the listed table, else no records and the buffer as it was
 pub record Checked (t buffer out buffer′ out′ : List ℕ) (r : Outcome) : Type 0 where
   pub faults : log (r .tally) buffer′ ≡ logged buffer (pass2 (decode t))
   pub accepted : Accepts (decode t) → Ordered t out out′ (r .records)
-  pub refused : ¬ (Accepts (decode t)) → out′ ≡ out
+  pub refused : ¬ (Accepts (decode t)) → (r .records ≡ 0) × (out′ ≡ out)
