@@ -43,38 +43,55 @@ walk-at t = and 4 walk-kinds.ps (is 4 walk-kinds.ps μ-walk t) walk.Pre
 abbrev walk-below : ℕ → In 4 walk-kinds.ps
 walk-below t = and 4 walk-kinds.ps (falls 4 walk-kinds.ps _<_ μ-walk t) walk.Pre
 
-visit-slice-read-m : (t : ℕ) → visit-lts.Need-slice-read-m (walk-below t, walk.Post, own-reference-reads.Asked, own-reference-reads.Learnt, visit-below t, visit.Post, note-reads.Asked, note-reads.Learnt, list-reads.Asked, list-reads.Learnt) (visit-at t) visit.Post
-visit-slice-read-m t c = let s = c .before .before .before .before .before in mark-in _ _ _ _ _ (s .pre .1 .0) (s .pre .1 .1)
+-- what the calls ask and give
+abbrev visit-claims : ℕ → visit-lts.Claims
+visit-claims t = (walk-below t, walk.Post, own-reference-reads.Asked, own-reference-reads.Learnt, visit-below t, visit.Post, note-reads.Asked, note-reads.Learnt, list-reads.Asked, list-reads.Learnt)
 
-visit-slice-write-marks : (t : ℕ) → visit-lts.Need-slice-write-marks (walk-below t, walk.Post, own-reference-reads.Asked, own-reference-reads.Learnt, visit-below t, visit.Post, note-reads.Asked, note-reads.Learnt, list-reads.Asked, list-reads.Learnt) (visit-at t) visit.Post
-visit-slice-write-marks t c = let s = c .before .before .before .before .before .before in mark-in _ _ _ _ _ (s .pre .1 .0) (s .pre .1 .1)
+abbrev walk-claims : ℕ → walk-lts.Claims
+walk-claims t = (member-at-reads.Asked, member-at-reads.Learnt, field-reference-reads.Asked, field-reference-reads.Learnt, visit-below t, visit.Post, note-reads.Asked, note-reads.Learnt, walk-below t, walk.Post)
 
-visit-add-walk : (t : ℕ) → visit-lts.Need-add-walk (walk-below t, walk.Post, own-reference-reads.Asked, own-reference-reads.Learnt, visit-below t, visit.Post, note-reads.Asked, note-reads.Learnt, list-reads.Asked, list-reads.Learnt) (visit-at t) visit.Post
-visit-add-walk t c = let s = c .before .before .before .before .before .before in record { fits = next-fits _ _ _ _ _ (s .pre .1 .0) (s .pre .1 .1) }
+visit-slice-read-m : (t : ℕ) → visit-lts.Need-slice-read-m (visit-claims t) (visit-at t) visit.Post
+visit-slice-read-m t c =
+    let s = c .before .before .before .before .before in
+    mark-in _ _ _ _ _ (s .pre .1 .0) (s .pre .1 .1)
 
-visit-walk-requires : (t : ℕ) → visit-lts.Need-walk-requires (walk-below t, walk.Post, own-reference-reads.Asked, own-reference-reads.Learnt, visit-below t, visit.Post, note-reads.Asked, note-reads.Learnt, list-reads.Asked, list-reads.Learnt) (visit-at t) visit.Post
-visit-walk-requires t c κs = let s = c .before .before .before .before .before .before .before .before .before in call-walk _ _ _ _ _ (s .pre .1 .0) (s .pre .1 .1) (c .before .before .before .if1 .taken) (s .pre .0)
+visit-slice-write-marks : (t : ℕ) → visit-lts.Need-slice-write-marks (visit-claims t) (visit-at t) visit.Post
+visit-slice-write-marks t c =
+    let s = c .before .before .before .before .before .before in
+    mark-in _ _ _ _ _ (s .pre .1 .0) (s .pre .1 .1)
 
-visit-own-reference-requires : (t : ℕ) → visit-lts.Need-own-reference-requires (walk-below t, walk.Post, own-reference-reads.Asked, own-reference-reads.Learnt, visit-below t, visit.Post, note-reads.Asked, note-reads.Learnt, list-reads.Asked, list-reads.Learnt) (visit-at t) visit.Post
-visit-own-reference-requires t c κs = tt
+visit-add-walk : (t : ℕ) → visit-lts.Need-add-walk (visit-claims t) (visit-at t) visit.Post
+visit-add-walk t c =
+    let s = c .before .before .before .before .before .before in
+    record { fits = next-fits _ _ _ _ _ (s .pre .1 .0) (s .pre .1 .1) }
 
-visit-enum-known-r : (t : ℕ) → visit-lts.Need-enum-known-r (walk-below t, walk.Post, own-reference-reads.Asked, own-reference-reads.Learnt, visit-below t, visit.Post, note-reads.Asked, note-reads.Learnt, list-reads.Asked, list-reads.Learnt) (visit-at t) visit.Post
-visit-enum-known-r t c = search needs
+visit-walk-requires : (t : ℕ) → visit-lts.Need-walk-requires (visit-claims t) (visit-at t) visit.Post
+visit-walk-requires t c κs =
+    let i = c .before .before .before in
+    let s = i .before .before .before .before .before .before in
+    call-walk _ _ _ _ _ (s .pre .1 .0) (s .pre .1 .1) (i .if1 .taken) (s .pre .0)
 
-visit-visit-requires : (t : ℕ) → visit-lts.Need-visit-requires (walk-below t, walk.Post, own-reference-reads.Asked, own-reference-reads.Learnt, visit-below t, visit.Post, note-reads.Asked, note-reads.Learnt, list-reads.Asked, list-reads.Learnt) (visit-at t) visit.Post
-visit-visit-requires t c κs = let s = c .before .before .before .before .before .before .before .before .before .before .before .before .before .before .before .before .before .before .before .before .before .before .before in let h = call-own _ _ _ _ _ (s .pre .1 .0) (s .pre .1 .1) (c .before .before .before .before .before .before .before .before .before .before .before .before .before .before .before .before .before .if1 .taken) (c .before .before .before .before .before .before .before .before .before .before .before .before .before .walk .ensures) (c .before .before .before .before .before .before .before .before .before .before .before .before .before .walk .kept .1 .1 .1 .0) (c .before .before .before .before .before .before .own-reference .ensures) (s .pre .0) in (h .0, (follow-in (decode (s .args .t .now)) (c .before .before .before .before .r .given .1) (h .1 .0), h .1 .1))
+visit-visit-requires : (t : ℕ) → visit-lts.Need-visit-requires (visit-claims t) (visit-at t) visit.Post
+visit-visit-requires t c κs =
+    let e = c .before .before .before .before in
+    let o = e .before .before in
+    let w = o .before .before .before .before .before .before .before in
+    let i = w .before .before .before .before in
+    let s = i .before .before .before .before .before .before in
+    let h = call-own _ _ _ _ _ (s .pre .1 .0) (s .pre .1 .1) (i .if1 .taken) (w .walk .ensures) (w .walk .kept .1 .1 .1 .0) (o .own-reference .ensures) (s .pre .0) in
+    (h .0, (follow-in (decode (s .args .t .now)) (e .r .given .1) (h .1 .0), h .1 .1))
 
-visit-enum-known-r-2 : (t : ℕ) → visit-lts.Need-enum-known-r-2 (walk-below t, walk.Post, own-reference-reads.Asked, own-reference-reads.Learnt, visit-below t, visit.Post, note-reads.Asked, note-reads.Learnt, list-reads.Asked, list-reads.Learnt) (visit-at t) visit.Post
-visit-enum-known-r-2 t c = search needs
-
-visit-note-requires : (t : ℕ) → visit-lts.Need-note-requires (walk-below t, walk.Post, own-reference-reads.Asked, own-reference-reads.Learnt, visit-below t, visit.Post, note-reads.Asked, note-reads.Learnt, list-reads.Asked, list-reads.Learnt) (visit-at t) visit.Post
-visit-note-requires t c κs = let s = c .before .before .before .before .before .before .before .before .before .before .before .before .before .before .before .before .before .before .before .before .before in let h = call-own _ _ _ _ _ (s .pre .1 .0) (s .pre .1 .1) (c .before .before .before .before .before .before .before .before .before .before .before .before .before .before .before .if1 .taken) (c .before .before .before .before .before .before .before .before .before .before .before .walk .ensures) (c .before .before .before .before .before .before .before .before .before .before .before .walk .kept .1 .1 .1 .0) (c .before .before .before .before .own-reference .ensures) (s .pre .0) in call-note _ _ _ _ _ (h .1 .1)
-
-visit-enum-told : (t : ℕ) → visit-lts.Need-enum-told (walk-below t, walk.Post, own-reference-reads.Asked, own-reference-reads.Learnt, visit-below t, visit.Post, note-reads.Asked, note-reads.Learnt, list-reads.Asked, list-reads.Learnt) (visit-at t) visit.Post
-visit-enum-told t c = search needs
+visit-note-requires : (t : ℕ) → visit-lts.Need-note-requires (visit-claims t) (visit-at t) visit.Post
+visit-note-requires t c κs =
+    let o = c .before .before .before .before in
+    let w = o .before .before .before .before .before .before .before in
+    let i = w .before .before .before .before in
+    let s = i .before .before .before .before .before .before in
+    let h = call-own _ _ _ _ _ (s .pre .1 .0) (s .pre .1 .1) (i .if1 .taken) (w .walk .ensures) (w .walk .kept .1 .1 .1 .0) (o .own-reference .ensures) (s .pre .0) in
+    call-note _ _ _ _ _ (h .1 .1)
 
 -- where the arms on the parent's name meet
-visit-join : (t : ℕ) (c : visit-lts.At-match-came (walk-below t, walk.Post, own-reference-reads.Asked, own-reference-reads.Learnt, visit-below t, visit.Post, note-reads.Asked, note-reads.Learnt, list-reads.Asked, list-reads.Learnt) (visit-at t) visit.Post)
+visit-join : (t : ℕ) (c : visit-lts.At-match-came (visit-claims t) (visit-at t) visit.Post)
     → Step (decode (c .before .before .before .before .before .before .before .before .before .before .before .before .before .before .before .before .before .before .args .t .now)) (c .before .own-reference .result) (c .before .before .before .before .before .before .before .before .walk .last .1 .1 .0) (c .before .before .before .before .before .before .before .before .walk .last .1 .1 .1 .0) (c .before .before .before .before .before .before .before .before .walk .last .1 .1 .1 .1 .0) (c .before .before .before .before .before .before .before .before .walk .result) (c .match .marks) (c .match .places) (c .match .buffer) (c .match .g)
 visit-join t c =
     ⊎-elim
@@ -82,56 +99,84 @@ visit-join t c =
     (⊎-elim (λ w. step-wrong (w .7) (w .8) (w .9) (w .10) (w .1 .given .1) (w .4 .ensures) (w .4 .kept .1 .0)) (λ w. step-nowhere (w .2) (w .3) (w .4) (w .5) (w .1 .given .1)))
     (c .match .came)
 
-visit-list-requires : (t : ℕ) → visit-lts.Need-list-requires (walk-below t, walk.Post, own-reference-reads.Asked, own-reference-reads.Learnt, visit-below t, visit.Post, note-reads.Asked, note-reads.Learnt, list-reads.Asked, list-reads.Learnt) (visit-at t) visit.Post
-visit-list-requires t c κs = let s = c .before .before .before .before .before .before .before .before .before .before .before .before .before .before .before .before .before .before .before .before in let j = visit-join t (c .before .before) in call-list _ _ _ _ _ (s .pre .1 .0) (s .pre .1 .1) (c .before .before .before .before .before .before .before .before .before .before .before .before .before .before .if1 .taken) (c .before .before .before .before .before .before .before .before .before .before .walk .ensures) (c .before .before .before .before .before .before .before .before .before .before .walk .kept .1 .1 .1 .0) (c .before .before .before .own-reference .ensures) (j .made) (j .places-long)
+visit-list-requires : (t : ℕ) → visit-lts.Need-list-requires (visit-claims t) (visit-at t) visit.Post
+visit-list-requires t c κs =
+    let o = c .before .before .before in
+    let w = o .before .before .before .before .before .before .before in
+    let i = w .before .before .before .before in
+    let s = i .before .before .before .before .before .before in
+    let j = visit-join t (c .before .before) in
+    call-list _ _ _ _ _ (s .pre .1 .0) (s .pre .1 .1) (i .if1 .taken) (w .walk .ensures) (w .walk .kept .1 .1 .1 .0) (o .own-reference .ensures) (j .made) (j .places-long)
 
-visit-note-requires-2 : (t : ℕ) → visit-lts.Need-note-requires-2 (walk-below t, walk.Post, own-reference-reads.Asked, own-reference-reads.Learnt, visit-below t, visit.Post, note-reads.Asked, note-reads.Learnt, list-reads.Asked, list-reads.Learnt) (visit-at t) visit.Post
-visit-note-requires-2 t c κs = let s = c .before .before .before .before .before .before .before .before in call-note _ _ _ _ _ (s .pre .1 .1)
+visit-note-requires-2 : (t : ℕ) → visit-lts.Need-note-requires-2 (visit-claims t) (visit-at t) visit.Post
+visit-note-requires-2 t c κs =
+    let s = c .before .before .before .before .before .before .before .before in
+    call-note _ _ _ _ _ (s .pre .1 .1)
 
-visit-same-length : (t : ℕ) → visit-lts.Need-same-length (walk-below t, walk.Post, own-reference-reads.Asked, own-reference-reads.Learnt, visit-below t, visit.Post, note-reads.Asked, note-reads.Learnt, list-reads.Asked, list-reads.Learnt) (visit-at t) visit.Post
-visit-same-length t c = c .before .before .before .before .list .kept .1 .0 ∙ visit-join t (c .before .before .before .before .before .before .before) .marks-long ∙ c .before .before .before .before .before .before .before .before .before .before .before .before .before .before .before .walk .kept .1 .1 .0 ∙ length-set (c .before .before .before .before .before .before .before .before .before .before .before .before .before .before .before .before .before .before .before .before .before .before .before .before .before .args .marks .now) (c .before .before .before .before .before .before .before .before .before .before .before .before .before .before .before .before .before .before .before .before .before .before .before .before .before .args .d) 1
+visit-same-length : (t : ℕ) → visit-lts.Need-same-length (visit-claims t) (visit-at t) visit.Post
+visit-same-length t c =
+    let l = c .before .before .before .before in
+    let x = l .before .before .before in
+    let w = x .before .before .before .before .before .before .before .before in
+    let s = w .before .before .before .before .before .before .before .before .before .before in
+    l .list .kept .1 .0 ∙ visit-join t (x) .marks-long ∙ w .walk .kept .1 .1 .0 ∙ length-set (s .args .marks .now) (s .args .d) 1
 
-visit-same-length-2 : (t : ℕ) → visit-lts.Need-same-length-2 (walk-below t, walk.Post, own-reference-reads.Asked, own-reference-reads.Learnt, visit-below t, visit.Post, note-reads.Asked, note-reads.Learnt, list-reads.Asked, list-reads.Learnt) (visit-at t) visit.Post
-visit-same-length-2 t c = c .before .before .before .before .list .kept .1 .1 .0 ∙ visit-join t (c .before .before .before .before .before .before .before) .places-long ∙ c .before .before .before .before .before .before .before .before .before .before .before .before .before .before .before .walk .kept .1 .1 .1 .0
+visit-same-length-2 : (t : ℕ) → visit-lts.Need-same-length-2 (visit-claims t) (visit-at t) visit.Post
+visit-same-length-2 t c =
+    let l = c .before .before .before .before in
+    let x = l .before .before .before in
+    let w = x .before .before .before .before .before .before .before .before in
+    l .list .kept .1 .1 .0 ∙ visit-join t (x) .places-long ∙ w .walk .kept .1 .1 .1 .0
 
-visit-same-length-3 : (t : ℕ) → visit-lts.Need-same-length-3 (walk-below t, walk.Post, own-reference-reads.Asked, own-reference-reads.Learnt, visit-below t, visit.Post, note-reads.Asked, note-reads.Learnt, list-reads.Asked, list-reads.Learnt) (visit-at t) visit.Post
-visit-same-length-3 t c = visit-join t (c .before .before .before .before .before .before .before) .buffer-long ∙ c .before .before .before .before .before .before .before .before .before .before .before .before .before .before .before .walk .kept .1 .1 .1 .1 .0
+visit-same-length-3 : (t : ℕ) → visit-lts.Need-same-length-3 (visit-claims t) (visit-at t) visit.Post
+visit-same-length-3 t c =
+    let x = c .before .before .before .before .before .before .before in
+    let w = x .before .before .before .before .before .before .before .before in
+    visit-join t (x) .buffer-long ∙ w .walk .kept .1 .1 .1 .1 .0
 
-visit-returns : (t : ℕ) → visit-lts.Need-returns (walk-below t, walk.Post, own-reference-reads.Asked, own-reference-reads.Learnt, visit-below t, visit.Post, note-reads.Asked, note-reads.Learnt, list-reads.Asked, list-reads.Learnt) (visit-at t) visit.Post
-visit-returns t c = let s = c .before .before .before .before .before .before .before .before .before .before .before .before .before .before .before .before .before .before .before .before .before .before .before .before .before in let j = visit-join t (c .before .before .before .before .before .before .before) in ret-new _ _ _ _ _ (s .pre .1 .0) (s .pre .1 .1) (c .before .before .before .before .before .before .before .before .before .before .before .before .before .before .before .before .before .before .before .if1 .taken) (c .before .before .before .before .before .before .before .before .before .before .before .before .before .before .before .walk .ensures) (c .before .before .before .before .before .before .before .before .before .before .before .before .before .before .before .walk .kept .1 .1 .1 .0) (c .before .before .before .before .before .before .before .before .own-reference .ensures) (j .made) (j .places-long) (c .before .before .before .before .list .ensures)
+visit-returns : (t : ℕ) → visit-lts.Need-returns (visit-claims t) (visit-at t) visit.Post
+visit-returns t c =
+    let l = c .before .before .before .before in
+    let x = l .before .before .before in
+    let o = x .before in
+    let w = o .before .before .before .before .before .before .before in
+    let i = w .before .before .before .before in
+    let s = i .before .before .before .before .before .before in
+    let j = visit-join t (x) in
+    ret-new _ _ _ _ _ (s .pre .1 .0) (s .pre .1 .1) (i .if1 .taken) (w .walk .ensures) (w .walk .kept .1 .1 .1 .0) (o .own-reference .ensures) (j .made) (j .places-long) (l .list .ensures)
 
-visit-same-length-4 : (t : ℕ) → visit-lts.Need-same-length-4 (walk-below t, walk.Post, own-reference-reads.Asked, own-reference-reads.Learnt, visit-below t, visit.Post, note-reads.Asked, note-reads.Learnt, list-reads.Asked, list-reads.Learnt) (visit-at t) visit.Post
-visit-same-length-4 t c = search needs
+visit-returns-2 : (t : ℕ) → visit-lts.Need-returns-2 (visit-claims t) (visit-at t) visit.Post
+visit-returns-2 t c =
+    let j = c .before .before .before .before in
+    let s = j .before .before .before .before .before .before .before in
+    ret-open _ _ _ _ _ (s .pre .1 .0) (s .pre .1 .1) (j .if2 .taken) (c .before .before .note2 .ensures)
 
-visit-returns-2 : (t : ℕ) → visit-lts.Need-returns-2 (walk-below t, walk.Post, own-reference-reads.Asked, own-reference-reads.Learnt, visit-below t, visit.Post, note-reads.Asked, note-reads.Learnt, list-reads.Asked, list-reads.Learnt) (visit-at t) visit.Post
-visit-returns-2 t c = let s = c .before .before .before .before .before .before .before .before .before .before .before in ret-open _ _ _ _ _ (s .pre .1 .0) (s .pre .1 .1) (c .before .before .before .before .if2 .taken) (c .before .before .note2 .ensures)
+visit-returns-3 : (t : ℕ) → visit-lts.Need-returns-3 (visit-claims t) (visit-at t) visit.Post
+visit-returns-3 t c =
+    let s = c .before .before .before .before .before .before .before in
+    ret-listed _ _ _ _ _ (s .pre .1 .0) (s .pre .1 .1) (c .before .if1 .left) (c .if2 .left)
 
-visit-returns-3 : (t : ℕ) → visit-lts.Need-returns-3 (walk-below t, walk.Post, own-reference-reads.Asked, own-reference-reads.Learnt, visit-below t, visit.Post, note-reads.Asked, note-reads.Learnt, list-reads.Asked, list-reads.Learnt) (visit-at t) visit.Post
-visit-returns-3 t c = let s = c .before .before .before .before .before .before .before in ret-listed _ _ _ _ _ (s .pre .1 .0) (s .pre .1 .1) (c .before .if1 .left) (c .if2 .left)
+walk-visit-requires : (t : ℕ) → walk-lts.Need-visit-requires (walk-claims t) (walk-at t) walk.Post
+walk-visit-requires t c κs =
+    let e = c .before .before .before .before in
+    let f = e .before .before in
+    let i = f .before in
+    let m = i .before in
+    let s = m .before .before .before .before .before in
+    let h = call-field _ _ _ _ _ (s .args .p) (sym (m .member-at .ensures) ∙ i .if1 .taken) (s .pre .1) (f .field-reference .ensures) (s .pre .0) in
+    (h .0, (follow-in (decode (s .args .t .now)) (e .r .given .1) (h .1 .0), h .1 .1))
 
-walk-member-at-requires : (t : ℕ) → walk-lts.Need-member-at-requires (member-at-reads.Asked, member-at-reads.Learnt, field-reference-reads.Asked, field-reference-reads.Learnt, visit-below t, visit.Post, note-reads.Asked, note-reads.Learnt, walk-below t, walk.Post) (walk-at t) walk.Post
-walk-member-at-requires t c κs = tt
-
-walk-field-reference-requires : (t : ℕ) → walk-lts.Need-field-reference-requires (member-at-reads.Asked, member-at-reads.Learnt, field-reference-reads.Asked, field-reference-reads.Learnt, visit-below t, visit.Post, note-reads.Asked, note-reads.Learnt, walk-below t, walk.Post) (walk-at t) walk.Post
-walk-field-reference-requires t c κs = tt
-
-walk-enum-known-r : (t : ℕ) → walk-lts.Need-enum-known-r (member-at-reads.Asked, member-at-reads.Learnt, field-reference-reads.Asked, field-reference-reads.Learnt, visit-below t, visit.Post, note-reads.Asked, note-reads.Learnt, walk-below t, walk.Post) (walk-at t) walk.Post
-walk-enum-known-r t c = search needs
-
-walk-visit-requires : (t : ℕ) → walk-lts.Need-visit-requires (member-at-reads.Asked, member-at-reads.Learnt, field-reference-reads.Asked, field-reference-reads.Learnt, visit-below t, visit.Post, note-reads.Asked, note-reads.Learnt, walk-below t, walk.Post) (walk-at t) walk.Post
-walk-visit-requires t c κs = let s = c .before .before .before .before .before .before .before .before .before .before .before .before .before in let h = call-field _ _ _ _ _ (s .args .p) (sym (c .before .before .before .before .before .before .before .before .member-at .ensures) ∙ c .before .before .before .before .before .before .before .if1 .taken) (s .pre .1) (c .before .before .before .before .before .before .field-reference .ensures) (s .pre .0) in (h .0, (follow-in (decode (s .args .t .now)) (c .before .before .before .before .r .given .1) (h .1 .0), h .1 .1))
-
-walk-enum-known-r-2 : (t : ℕ) → walk-lts.Need-enum-known-r-2 (member-at-reads.Asked, member-at-reads.Learnt, field-reference-reads.Asked, field-reference-reads.Learnt, visit-below t, visit.Post, note-reads.Asked, note-reads.Learnt, walk-below t, walk.Post) (walk-at t) walk.Post
-walk-enum-known-r-2 t c = search needs
-
-walk-note-requires : (t : ℕ) → walk-lts.Need-note-requires (member-at-reads.Asked, member-at-reads.Learnt, field-reference-reads.Asked, field-reference-reads.Learnt, visit-below t, visit.Post, note-reads.Asked, note-reads.Learnt, walk-below t, walk.Post) (walk-at t) walk.Post
-walk-note-requires t c κs = let s = c .before .before .before .before .before .before .before .before .before .before .before in let h = call-field _ _ _ _ _ (s .args .p) (sym (c .before .before .before .before .before .before .member-at .ensures) ∙ c .before .before .before .before .before .if1 .taken) (s .pre .1) (c .before .before .before .before .field-reference .ensures) (s .pre .0) in call-note _ _ _ _ _ (h .1 .1)
-
-walk-enum-told : (t : ℕ) → walk-lts.Need-enum-told (member-at-reads.Asked, member-at-reads.Learnt, field-reference-reads.Asked, field-reference-reads.Learnt, visit-below t, visit.Post, note-reads.Asked, note-reads.Learnt, walk-below t, walk.Post) (walk-at t) walk.Post
-walk-enum-told t c = search needs
+walk-note-requires : (t : ℕ) → walk-lts.Need-note-requires (walk-claims t) (walk-at t) walk.Post
+walk-note-requires t c κs =
+    let f = c .before .before .before .before in
+    let i = f .before in
+    let m = i .before in
+    let s = m .before .before .before .before .before in
+    let h = call-field _ _ _ _ _ (s .args .p) (sym (m .member-at .ensures) ∙ i .if1 .taken) (s .pre .1) (f .field-reference .ensures) (s .pre .0) in
+    call-note _ _ _ _ _ (h .1 .1)
 
 -- where the arms on the field meet
-walk-join : (t : ℕ) (c : walk-lts.At-match-came (member-at-reads.Asked, member-at-reads.Learnt, field-reference-reads.Asked, field-reference-reads.Learnt, visit-below t, visit.Post, note-reads.Asked, note-reads.Learnt, walk-below t, walk.Post) (walk-at t) walk.Post)
+walk-join : (t : ℕ) (c : walk-lts.At-match-came (walk-claims t) (walk-at t) walk.Post)
     → Step (decode (c .before .before .before .before .before .before .before .before .args .t .now)) (c .before .field-reference .result) (c .before .before .before .before .before .before .before .before .args .marks .now) (c .before .before .before .before .before .before .before .before .args .places .now) (c .before .before .before .before .before .before .before .before .args .buffer .now) (c .before .before .before .before .before .before .before .before .args .a) (c .match .marks) (c .match .places) (c .match .buffer) (c .match .b)
 walk-join t c =
     ⊎-elim
@@ -139,29 +184,57 @@ walk-join t c =
     (⊎-elim (λ w. step-wrong (w .7) (w .8) (w .9) (w .10) (w .1 .given .1) (w .4 .ensures) (w .4 .kept .1 .0)) (λ w. step-nowhere (w .2) (w .3) (w .4) (w .5) (w .1 .given .1)))
     (c .match .came)
 
-walk-add-walk : (t : ℕ) → walk-lts.Need-add-walk (member-at-reads.Asked, member-at-reads.Learnt, field-reference-reads.Asked, field-reference-reads.Learnt, visit-below t, visit.Post, note-reads.Asked, note-reads.Learnt, walk-below t, walk.Post) (walk-at t) walk.Post
-walk-add-walk t c = let s = c .before .before .before .before .before .before .before .before in let h = member-below (decode (s .args .t .now)) (s .args .p) (sym (c .before .before .before .member-at .ensures) ∙ c .before .before .if1 .taken) in let w = s .pre .1 .few in omega arith
+walk-add-walk : (t : ℕ) → walk-lts.Need-add-walk (walk-claims t) (walk-at t) walk.Post
+walk-add-walk t c =
+    let m = c .before .before .before in
+    let s = m .before .before .before .before .before in
+    let h = member-below (decode (s .args .t .now)) (s .args .p) (sym (m .member-at .ensures) ∙ c .before .before .if1 .taken) in
+    let w = s .pre .1 .few in omega arith
 
-walk-walk-requires : (t : ℕ) → walk-lts.Need-walk-requires (member-at-reads.Asked, member-at-reads.Learnt, field-reference-reads.Asked, field-reference-reads.Learnt, visit-below t, visit.Post, note-reads.Asked, note-reads.Learnt, walk-below t, walk.Post) (walk-at t) walk.Post
-walk-walk-requires t c κs = let s = c .before .before .before .before .before .before .before .before .before .before .before in let j = walk-join t (c .before .before .before) in call-rest _ _ _ _ _ (s .args .p) (sym (c .before .before .before .before .before .before .member-at .ensures) ∙ c .before .before .before .before .before .if1 .taken) (s .pre .1) (c .before .before .before .before .field-reference .ensures) (j .made) (j .places-long) (s .pre .0)
+walk-walk-requires : (t : ℕ) → walk-lts.Need-walk-requires (walk-claims t) (walk-at t) walk.Post
+walk-walk-requires t c κs =
+    let x = c .before .before .before in
+    let f = x .before in
+    let i = f .before in
+    let m = i .before in
+    let s = m .before .before .before .before .before in
+    let j = walk-join t (x) in
+    call-rest _ _ _ _ _ (s .args .p) (sym (m .member-at .ensures) ∙ i .if1 .taken) (s .pre .1) (f .field-reference .ensures) (j .made) (j .places-long) (s .pre .0)
 
-walk-same-length : (t : ℕ) → walk-lts.Need-same-length (member-at-reads.Asked, member-at-reads.Learnt, field-reference-reads.Asked, field-reference-reads.Learnt, visit-below t, visit.Post, note-reads.Asked, note-reads.Learnt, walk-below t, walk.Post) (walk-at t) walk.Post
-walk-same-length t c = c .before .before .before .before .before .before .walk .kept .1 .1 .0 ∙ walk-join t (c .before .before .before .before .before .before .before .before .before .before) .marks-long
+walk-same-length : (t : ℕ) → walk-lts.Need-same-length (walk-claims t) (walk-at t) walk.Post
+walk-same-length t c =
+    let w = c .before .before .before .before .before .before in
+    let x = w .before .before .before .before in
+    w .walk .kept .1 .1 .0 ∙ walk-join t (x) .marks-long
 
-walk-same-length-2 : (t : ℕ) → walk-lts.Need-same-length-2 (member-at-reads.Asked, member-at-reads.Learnt, field-reference-reads.Asked, field-reference-reads.Learnt, visit-below t, visit.Post, note-reads.Asked, note-reads.Learnt, walk-below t, walk.Post) (walk-at t) walk.Post
-walk-same-length-2 t c = c .before .before .before .before .before .before .walk .kept .1 .1 .1 .0 ∙ walk-join t (c .before .before .before .before .before .before .before .before .before .before) .places-long
+walk-same-length-2 : (t : ℕ) → walk-lts.Need-same-length-2 (walk-claims t) (walk-at t) walk.Post
+walk-same-length-2 t c =
+    let w = c .before .before .before .before .before .before in
+    let x = w .before .before .before .before in
+    w .walk .kept .1 .1 .1 .0 ∙ walk-join t (x) .places-long
 
-walk-same-length-3 : (t : ℕ) → walk-lts.Need-same-length-3 (member-at-reads.Asked, member-at-reads.Learnt, field-reference-reads.Asked, field-reference-reads.Learnt, visit-below t, visit.Post, note-reads.Asked, note-reads.Learnt, walk-below t, walk.Post) (walk-at t) walk.Post
-walk-same-length-3 t c = c .before .before .before .before .before .before .walk .kept .1 .1 .1 .1 .0 ∙ walk-join t (c .before .before .before .before .before .before .before .before .before .before) .buffer-long
+walk-same-length-3 : (t : ℕ) → walk-lts.Need-same-length-3 (walk-claims t) (walk-at t) walk.Post
+walk-same-length-3 t c =
+    let w = c .before .before .before .before .before .before in
+    let x = w .before .before .before .before in
+    w .walk .kept .1 .1 .1 .1 .0 ∙ walk-join t (x) .buffer-long
 
-walk-returns : (t : ℕ) → walk-lts.Need-returns (member-at-reads.Asked, member-at-reads.Learnt, field-reference-reads.Asked, field-reference-reads.Learnt, visit-below t, visit.Post, note-reads.Asked, note-reads.Learnt, walk-below t, walk.Post) (walk-at t) walk.Post
-walk-returns t c = let s = c .before .before .before .before .before .before .before .before .before .before .before .before .before .before .before .before .before .before in let j = walk-join t (c .before .before .before .before .before .before .before .before .before .before) in ret-more _ _ _ _ _ (s .args .p) (sym (c .before .before .before .before .before .before .before .before .before .before .before .before .before .member-at .ensures) ∙ c .before .before .before .before .before .before .before .before .before .before .before .before .if1 .taken) (s .pre .1) (c .before .before .before .before .before .before .before .before .before .before .before .field-reference .ensures) (j .made) (j .places-long) (c .before .before .before .before .before .before .walk .ensures)
+walk-returns : (t : ℕ) → walk-lts.Need-returns (walk-claims t) (walk-at t) walk.Post
+walk-returns t c =
+    let w = c .before .before .before .before .before .before in
+    let x = w .before .before .before .before in
+    let f = x .before in
+    let i = f .before in
+    let m = i .before in
+    let s = m .before .before .before .before .before in
+    let j = walk-join t (x) in
+    ret-more _ _ _ _ _ (s .args .p) (sym (m .member-at .ensures) ∙ i .if1 .taken) (s .pre .1) (f .field-reference .ensures) (j .made) (j .places-long) (w .walk .ensures)
 
-walk-returns-2 : (t : ℕ) → walk-lts.Need-returns-2 (member-at-reads.Asked, member-at-reads.Learnt, field-reference-reads.Asked, field-reference-reads.Learnt, visit-below t, visit.Post, note-reads.Asked, note-reads.Learnt, walk-below t, walk.Post) (walk-at t) walk.Post
+walk-returns-2 : (t : ℕ) → walk-lts.Need-returns-2 (walk-claims t) (walk-at t) walk.Post
 walk-returns-2 t c = walked-end _ _ _ _ _ _ (sym (c .before .member-at .ensures) ∙ c .if1 .left)
 
 pub +visit+walk-spec : {M : Type 1} → statement M
 +visit+walk-spec =
     close μ-visit μ-walk
-    (λ t. visit-lts.spec (walk-below t, walk.Post, own-reference-reads.Asked, own-reference-reads.Learnt, visit-below t, visit.Post, note-reads.Asked, note-reads.Learnt, list-reads.Asked, list-reads.Learnt) (visit-at t) visit.Post (visit-slice-read-m t) (visit-slice-write-marks t) (visit-add-walk t) (visit-walk-requires t) (visit-own-reference-requires t) (visit-enum-known-r t) (visit-visit-requires t) (visit-enum-known-r-2 t) (visit-note-requires t) (visit-enum-told t) (visit-list-requires t) (visit-note-requires-2 t) (visit-same-length t) (visit-same-length-2 t) (visit-same-length-3 t) (visit-returns t) (visit-same-length-4 t) (visit-returns-2 t) (visit-returns-3 t))
-    (λ t. walk-lts.spec (member-at-reads.Asked, member-at-reads.Learnt, field-reference-reads.Asked, field-reference-reads.Learnt, visit-below t, visit.Post, note-reads.Asked, note-reads.Learnt, walk-below t, walk.Post) (walk-at t) walk.Post (walk-member-at-requires t) (walk-field-reference-requires t) (walk-enum-known-r t) (walk-visit-requires t) (walk-enum-known-r-2 t) (walk-note-requires t) (walk-enum-told t) (walk-add-walk t) (walk-walk-requires t) (walk-same-length t) (walk-same-length-2 t) (walk-same-length-3 t) (walk-returns t) (walk-returns-2 t))
+    (λ t. visit-lts.spec (visit-claims t) (visit-at t) visit.Post (visit-slice-read-m t) (visit-slice-write-marks t) (visit-add-walk t) (visit-walk-requires t) (λ c κs. tt) (λ c. search needs) (visit-visit-requires t) (λ c. search needs) (visit-note-requires t) (λ c. search needs) (visit-list-requires t) (visit-note-requires-2 t) (visit-same-length t) (visit-same-length-2 t) (visit-same-length-3 t) (visit-returns t) (λ c. search needs) (visit-returns-2 t) (visit-returns-3 t))
+    (λ t. walk-lts.spec (walk-claims t) (walk-at t) walk.Post (λ c κs. tt) (λ c κs. tt) (λ c. search needs) (walk-visit-requires t) (λ c. search needs) (walk-note-requires t) (λ c. search needs) (walk-add-walk t) (walk-walk-requires t) (walk-same-length t) (walk-same-length-2 t) (walk-same-length-3 t) (walk-returns t) (walk-returns-2 t))

@@ -6,8 +6,9 @@ use Rattle.order.proofs.check_decl_identifiers.Tie as tie
 
 order-with-requires : tie.Need-order-with-requires
 order-with-requires c κs =
-    let s = c .before .before .before .before .before .before .before .before in
-    (s .pre .0, part-zeros _ _ 1600 (c .before .before .before .before .count .ensures) (s .pre .0), s .pre .0, s .pre .1)
+    let n = c .before .before .before .before in
+    let s = n .before .before .before .before in
+    (s .pre .0, part-zeros _ _ 1600 (n .count .ensures) (s .pre .0), s .pre .0, s .pre .1)
 
 pub check-decl-identifiers-spec : {M : Type 1} → statement M
 check-decl-identifiers-spec =

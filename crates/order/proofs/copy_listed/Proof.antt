@@ -25,18 +25,26 @@ record-count-requires c κs =
 
 copy-requires : tie.Need-copy-requires Inv-loop μ-loop
 copy-requires c κs =
-    let s = c .before .before .before .before .before .before .before .before in
-    copy-call _ _ _ _ (s .pre .0) (s .pre .1) _ _ _ (c .before .before .before .before .loop .inv) (c .before .before .before .loop-test .taken) _ (c .before .record-count .ensures)
+    let t′ = c .before .before .before in
+    let l = t′ .before in
+    let s = l .before .before .before .before in
+    copy-call _ _ _ _ (s .pre .0) (s .pre .1) _ _ _ (l .loop .inv) (t′ .loop-test .taken) _ (c .before .record-count .ensures)
 
 add-count : tie.Need-add-count Inv-loop μ-loop
 add-count c =
-    let s = c .before .before .before .before .before .before .before .before .before .before .before in
-    omega (arith, copy-call _ _ _ _ (s .pre .0) (s .pre .1) _ _ _ (c .before .before .before .before .before .before .before .loop .inv) (c .before .before .before .before .before .before .loop-test .taken) _ (c .before .before .before .before .record-count .ensures) .1, copied-long _ _ _ _ (s .pre .0) (s .pre .1) _ _ _ (c .before .before .before .before .before .before .before .loop .inv))
+    let k = c .before .before .before .before in
+    let t′ = k .before .before in
+    let l = t′ .before in
+    let s = l .before .before .before .before in
+    omega (arith, copy-call _ _ _ _ (s .pre .0) (s .pre .1) _ _ _ (l .loop .inv) (t′ .loop-test .taken) _ (k .record-count .ensures) .1, copied-long _ _ _ _ (s .pre .0) (s .pre .1) _ _ _ (l .loop .inv))
 
 loop-again : tie.Need-loop-again Inv-loop μ-loop
 loop-again c =
-    let s = c .before .before .before .before .before .before .before .before .before .before .before in
-    copy-turn _ _ _ _ (s .pre .0) (s .pre .1) _ _ _ (c .before .before .before .before .before .before .before .loop .inv) (c .before .before .before .before .before .before .loop-test .taken) _ (c .before .before .before .before .record-count .ensures) _ (c .before .before .copy .ensures)
+    let k = c .before .before .before .before in
+    let t′ = k .before .before in
+    let l = t′ .before in
+    let s = l .before .before .before .before in
+    copy-turn _ _ _ _ (s .pre .0) (s .pre .1) _ _ _ (l .loop .inv) (t′ .loop-test .taken) _ (k .record-count .ensures) _ (c .before .before .copy .ensures)
 
 same-length : tie.Need-same-length Inv-loop μ-loop
 same-length c =

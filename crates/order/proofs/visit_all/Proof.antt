@@ -29,25 +29,30 @@ visit-root-requires c κs =
 
 add-p : tie.Need-add-p Inv-loop μ-loop
 add-p c =
-    let l = c .before .before .before .before .before .before .before .before .before .before .before in
-    omega (arith, c .before .before .before .before .before .before .before .before .before .before .loop-test .taken, l .before .before .count .ensures, l .loop .inv .few)
+    let t′ = c .before .before .before .before .before .before .before .before .before .before in
+    let l = t′ .before in
+    omega (arith, t′ .loop-test .taken, l .before .before .count .ensures, l .loop .inv .few)
 
 loop-less : tie.Need-loop-less Inv-loop μ-loop
 loop-less c =
-    let l = c .before .before .before .before .before .before .before .before .before .before .before in
-    omega (arith, c .before .before .before .before .before .before .before .before .before .before .loop-test .taken, l .before .before .count .ensures)
+    let t′ = c .before .before .before .before .before .before .before .before .before .before in
+    let l = t′ .before in
+    omega (arith, t′ .loop-test .taken, l .before .before .count .ensures)
 
 loop-again : tie.Need-loop-again Inv-loop μ-loop
 loop-again c =
-    let l = c .before .before .before .before .before .before .before .before .before .before .before in
+    let v′ = c .before .before .before .before .before .before in
+    let t′ = v′ .before .before .before .before in
+    let l = t′ .before in
     let n = l .before .before in
-    let v = c .before .before .before .before .before .before .visit-root in
-    let i : l .loop .p < length (decode (n .before .before .before .before .before .args .t .now)) = omega (arith, n .count .ensures, c .before .before .before .before .before .before .before .before .before .before .loop-test .taken) in
+    let v = v′ .visit-root in
+    let i : l .loop .p < length (decode (n .before .before .before .before .before .args .t .now)) = omega (arith, n .count .ensures, t′ .loop-test .taken) in
     loop-turn _ _ _ _ _ _ _ _ (l .loop .inv) i _ _ _ _ (v .ensures) (v .kept .1 .1 .1 .0) (v .kept .1 .1 .1 .1 .0)
 
 same-length : tie.Need-same-length Inv-loop μ-loop
 same-length c =
-    c .before .loop .inv .size ∙ sym (ap length (c .before .before .before .before .before .before .before .before .pre .1) ∙ length-replicate _ 0)
+    let s = c .before .before .before .before .before .before .before .before in
+    c .before .loop .inv .size ∙ sym (ap length (s .pre .1) ∙ length-replicate _ 0)
 
 same-length-2 : tie.Need-same-length-2 Inv-loop μ-loop
 same-length-2 c = c .before .loop .inv .places-long

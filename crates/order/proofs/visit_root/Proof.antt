@@ -8,20 +8,29 @@ use Rattle.order.proofs.visit_root.Tie as tie
 
 visit-requires : tie.Need-visit-requires
 visit-requires c κs =
-    let s = c .before .before .before .before .before .before .before .before .before .before .before in
+    let d = c .before .before .before .before in
+    let r = d .before .before in
+    let s = r .before .before .before .before .before in
     let rs = decode (s .args .t .now) in
-    (follow-in rs (c .before .before .before .before .d .given .1) (rw (c .before .before .before .before .before .before .root-reference .ensures) (within-root rs (s .args .p) (s .pre .0))), s .pre .1)
+    (follow-in rs (d .d .given .1) (rw (r .root-reference .ensures) (within-root rs (s .args .p) (s .pre .0))), s .pre .1)
 
 note-requires : tie.Need-note-requires
-note-requires c κs = call-note _ _ _ _ _ (c .before .before .before .before .before .before .before .before .before .pre .1)
+note-requires c κs =
+    let s = c .before .before .before .before .before .before .before .before .before in
+    call-note _ _ _ _ _ (s .pre .1)
 
 returns : tie.Need-returns
 returns c =
-    ret-follow _ _ _ _ _ (sym (c .before .before .before .before .before .before .before .before .before .before .before .before .before .root-reference .ensures) ∙ c .before .before .before .before .before .before .before .before .before .before .before .d .given .1) (c .before .before .before .before .before .before .visit .ensures)
+    let v = c .before .before .before .before .before .before in
+    let d = v .before .before .before .before .before in
+    let r = d .before .before in
+    ret-follow _ _ _ _ _ (sym (r .root-reference .ensures) ∙ d .d .given .1) (v .visit .ensures)
 
 returns-2 : tie.Need-returns-2
 returns-2 c =
-    ret-wrong _ _ _ _ _ (sym (c .before .before .before .before .before .before .before .root-reference .ensures) ∙ c .before .before .before .before .before .code .given .1) (c .before .before .note .ensures)
+    let d = c .before .before .before .before .before in
+    let r = d .before .before in
+    ret-wrong _ _ _ _ _ (sym (r .root-reference .ensures) ∙ d .code .given .1) (c .before .before .note .ensures)
 
 returns-3 : tie.Need-returns-3
 returns-3 c = ret-nowhere _ _ _ _ _ (sym (c .before .before .root-reference .ensures) ∙ c .enum-told .given .1)

@@ -13,17 +13,26 @@ returns c =
 returns-2 : tie.Need-returns-2
 unfolding fieldReference
 returns-2 c =
-    rw (← c .before .before .before .before .before .before .at .ensures, ne-eqb _ _ (c .before .before .before .before .if1 .left), eq-eqb _ _ (c .before .before .if2 .taken), ← c .before .decl-named2 .ensures) (c .type-reference .ensures)
+    let i = c .before .before .before .before in
+    let a = i .before .before in
+    rw (← a .at .ensures, ne-eqb _ _ (i .if1 .left), eq-eqb _ _ (c .before .before .if2 .taken), ← c .before .decl-named2 .ensures) (c .type-reference .ensures)
 
 returns-3 : tie.Need-returns-3
 unfolding fieldReference
 returns-3 c =
-    rw (← c .before .before .before .before .before .before .before .before .before .before .at .ensures, ne-eqb _ _ (c .before .before .before .before .before .before .before .before .if1 .left), ne-eqb _ _ (c .before .before .before .before .before .before .if2 .left), c .before .before .before .if3 .taken, ← c .before .decl-named3 .ensures) (c .type-reference2 .ensures)
+    let x = c .before .before .before in
+    let j = x .before .before .before in
+    let i = j .before .before in
+    let a = i .before .before in
+    rw (← a .at .ensures, ne-eqb _ _ (i .if1 .left), ne-eqb _ _ (j .if2 .left), x .if3 .taken, ← c .before .decl-named3 .ensures) (c .type-reference2 .ensures)
 
 returns-4 : tie.Need-returns-4
 unfolding fieldReference
 returns-4 c =
-    rw (← c .before .before .before .before .before .before .before .at .ensures, ne-eqb _ _ (c .before .before .before .before .before .if1 .left), ne-eqb _ _ (c .before .before .before .if2 .left), c .if3 .left)
+    let j = c .before .before .before in
+    let i = j .before .before in
+    let a = i .before .before in
+    rw (← a .at .ensures, ne-eqb _ _ (i .if1 .left), ne-eqb _ _ (j .if2 .left), c .if3 .left)
 
 pub field-reference-spec : {M : Type 1} → statement M
 field-reference-spec =

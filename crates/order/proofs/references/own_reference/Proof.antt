@@ -7,7 +7,8 @@ use Rattle.order.proofs.references.own_reference.Tie as tie
 returns : tie.Need-returns
 unfolding ownReference
 returns c =
-    rw (← c .before .before .before .before .before .before .at .ensures, c .before .before .if1 .taken, ← c .before .decl-named .ensures) (c .parent-reference .ensures)
+    let a = c .before .before .before .before .before .before in
+    rw (← a .at .ensures, c .before .before .if1 .taken, ← c .before .decl-named .ensures) (c .parent-reference .ensures)
 
 returns-2 : tie.Need-returns-2
 unfolding ownReference
