@@ -1,19 +1,18 @@
 -- A pass over sound declarations finds no fault. Assumes nothing.
-use mathlib.Core.Path.{_≡_, refl, sym, _∙_, ap, subst}
+use mathlib.Core.Path.{_≡_, refl, sym, ap, subst}
 use mathlib.Core.Logic.{_⊎_, inl, inr, ⊎-elim}
 use mathlib.Core.Bool.{Bool, true, false}
-use mathlib.Core.List.{List, [], _∷_, _++_, List·Memᴰ, List·Memᴰ·head, List·Memᴰ·tail}
-use Prim.Native.Nat.{ℕ, zero, suc, _+_, _*_, _<_, _≤_}
+use mathlib.Core.List.{List, [], _∷_, List·Memᴰ, List·Memᴰ·head, List·Memᴰ·tail}
+use Prim.Native.Nat.{ℕ, zero, suc}
 use native.Mathlib.Omega.{arith}
-use native.Mathlib.Decide.{ℕ-discrete}
 use borrow.Author.Tests.{eqb-true}
 use lib.Dec.{eqb}
-use lib.ListN.{length, getD, set, replicate}
-use lib.Seq.{getD-set-same, getD-set-other, set-out}
+use lib.ListN.{getD, set, replicate}
+use lib.Seq.{getD-set-other}
 use Rattle.rules.specs.declared.Reference.{Reference}
 use Rattle.rules.specs.declared.Reference.the-variants.{Nowhere, Wrong, Follow}
-use Rattle.rules.specs.Visits.{unvisited, visitAll, PlaceFault, State, markOf, opened, noted, listed, resolve, walk, enter, visit}
-use Rattle.order.specs.Reachability.{Reaches, one, step, TopologicalOrder, Faultless}
+use Rattle.rules.specs.Visits.{unvisited, visitAll, State, markOf, opened, walk, enter, visit}
+use Rattle.order.specs.Reachability.{Reaches, one, step, Faultless}
 
 -- ---- a mark after a store
 

@@ -1,7 +1,7 @@
 -- What a visit leaves unvisited, and how far the list and the faults can grow by it. Assumes nothing.
 use mathlib.Core.Path.{_≡_, refl, sym, _∙_, ap}
 use mathlib.Core.Bool.{Bool, true, false, _&&_, not}
-use mathlib.Core.List.{List, [], _∷_, _++_}
+use mathlib.Core.List.{List, [], _∷_}
 use Prim.Native.Nat.{ℕ, zero, suc, _+_, _*_, _-_, _<_, _≤_, zero-le}
 use native.Mathlib.Nat.{le-refl}
 use native.Mathlib.Omega.{arith}
@@ -10,11 +10,10 @@ use lib.Dec.{eqb, ltb}
 use lib.ListN.{length, getD, set, length-append, length-set}
 use Rattle.rules.specs.declared.Reference.{Reference}
 use Rattle.rules.specs.declared.Reference.the-variants.{Nowhere, Wrong, Follow}
-use Rattle.rules.specs.Visits.{PlaceFault, State, markOf, opened, noted, listed, resolve, walk, enter, visit}
+use Rattle.rules.specs.Visits.{State, markOf, opened, noted, resolve, walk, enter, visit}
 use Rattle.order.specs.Reachability.{unvisitedCount}
 use Rattle.rules.specs.Kinds.{isDecl}
 use Rattle.rules.specs.Table.{at}
-use Rattle.rules.specs.Choice.{if_then_else_}
 use Rattle.rules.specs.DeclIdentifiers.{fieldReference, fieldReferences, references}
 use Rattle.rules.specs.declared.Record.{Record}
 use Rattle.order.specs.Contract.{memberAt}

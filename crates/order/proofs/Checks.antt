@@ -4,22 +4,18 @@ use mathlib.Core.List.{List, [], _∷_, map, List·Memᴰ}
 use Prim.Native.Nat.{ℕ, zero, suc, _+_, _-_, _*_, _<_, _≤_}
 use native.Mathlib.Omega.{arith}
 use native.Mathlib.Nat.{zero-add}
-use lib.ListN.{length, take, drop, replicate, length-map}
+use lib.ListN.{length, take, drop, replicate}
 use lib.Seq.{take-at}
 use Rattle.rules.specs.Bytes.{written}
 use Rattle.rules.specs.Table.{decode}
 use Rattle.rules.specs.Faults.{log, logged}
-use Rattle.rules.specs.Visits.{State}
 use Rattle.rules.specs.DeclIdentifiers.{visited, faultOf, pass2, order, ordered, allRecords}
 use Rattle.rules.specs.Ordering.{Accepts}
-use Rattle.rules.specs.declared.Record.{Record}
 use Rattle.rules.specs.declared.Fault.{Fault}
-use Rattle.rules.specs.declared.Tally.{Tally}
 use Rattle.faults.specs.Notes.{none}
 use Rattle.faults.proofs.Laws.{noted-logged, total-after}
 use Rattle.order.specs.declared.Progress.{Progress}
-use Rattle.order.specs.declared.Outcome.{Outcome}
-use Rattle.order.specs.Contract.{Held, Placed, Ordered, Checked, allBytes}
+use Rattle.order.specs.Contract.{Held, Placed, Checked, allBytes}
 use Rattle.order.proofs.Loop.{order-read, order-short}
 use Rattle.order.proofs.Promise.{listed-declared}
 use Rattle.order.proofs.Copies.{all-length, all-decode}

@@ -1,6 +1,6 @@
 -- Tables in parts: the bytes and the records of listed declarations. Assumes nothing.
 use mathlib.Core.Path.{_≡_, refl, sym, _∙_, ap, subst}
-use mathlib.Core.List.{List, [], _∷_, _++_, append-assoc, append-nil, List·Memᴰ, List·Memᴰ·head, List·Memᴰ·tail, Memᴰ·append-left, Memᴰ·append-right, Memᴰ·cast}
+use mathlib.Core.List.{List, [], _∷_, _++_, append-assoc, append-nil, List·Memᴰ, List·Memᴰ·head, List·Memᴰ·tail, Memᴰ·append-left, Memᴰ·cast}
 use Prim.Native.Nat.{ℕ, zero, suc, _+_, _-_, _*_, _/_, _<_, _≤_}
 use native.Mathlib.Nat.{zero-add, suc-add}
 use native.Mathlib.Numerals.{add-one}
@@ -9,7 +9,7 @@ use lib.ListN.{length, getD, take, drop, length-append, length-drop, take-append
 use lib.Seq.{length-take-le, take-at, drop-at, take-suc, take-add, drop-append-le, drop-append-add, drop-drop, getD-take}
 use Rattle.rules.specs.Bytes.{numberAt, written}
 use Rattle.rules.specs.Table.{recordAt, records, decode}
-use Rattle.rules.specs.Places.{first, holdsAt, firstFrom, upTo, memberCount}
+use Rattle.rules.specs.Places.{first, holdsAt, firstFrom, memberCount}
 use Rattle.rules.specs.DeclIdentifiers.{declRecords, allRecords}
 use Rattle.rules.specs.declared.Record.{Record}
 use Rattle.rules.specs.declared.Found.{Found}

@@ -1,26 +1,24 @@
 -- In the listed table of an accepted one with unique names every group stands before the declaration that holds a field of it.
 -- Assumes nothing.
 use mathlib.Core.Path.{_≡_, refl, sym, _∙_, ap, subst}
-use mathlib.Core.Logic.{_⊎_, inl, inr, ⊎-elim}
-use mathlib.Core.Bool.{Bool, true, false, _&&_}
-use mathlib.Core.List.{List, [], _∷_, _++_, List·Memᴰ, List·Memᴰ·head, List·Memᴰ·tail}
+use mathlib.Core.Bool.{Bool, true, false}
+use mathlib.Core.List.{List, [], _∷_, _++_}
 use Prim.Native.Nat.{ℕ, zero, suc, _+_, _-_, _<_, _≤_}
 use native.Mathlib.Omega.{arith}
-use native.Mathlib.Nat.{add-zero, zero-add, add-assoc, eq-or-lt-of-le}
+use native.Mathlib.Nat.{add-zero, zero-add}
 use native.Mathlib.Decide.{decLt, ℕ-discrete}
 use borrow.Author.Tests.{eqb-true, eq-eqb, leb-true, le-leb}
 use lib.Dec.{eqb, leb}
-use lib.ListN.{length, getD, take, drop, length-append, List·getD-append}
+use lib.ListN.{length, getD, take, length-append, List·getD-append}
 use lib.Seq.{getD-append-add}
 use Rattle.rules.specs.Kinds as kind
 use Rattle.rules.specs.Kinds.{is, isDecl, isNamedDecl}
 use Rattle.rules.specs.Table.{at, blank}
 use Rattle.rules.specs.Places.{nearest, first, holdsAt, declNamed, memberCount}
 use Rattle.rules.specs.DeclIdentifiers.{declRecords, allRecords, order, ordered}
-use Rattle.rules.specs.Ordering.{Declared, Named, UniqueNames, HeldBy, Allowed, Follows, by-group, Listing, Accepts, OrderingPromise}
+use Rattle.rules.specs.Ordering.{Declared, Named, UniqueNames, HeldBy, by-group, Listing, Accepts}
 use Rattle.rules.specs.declared.Record.{Record}
-use Rattle.rules.specs.declared.Found.{Found}
-use Rattle.rules.specs.declared.Found.the-variants.{At, Nothing}
+use Rattle.rules.specs.declared.Found.the-variants.{At}
 use Rattle.rules.specs.declared.Target.the-variants.{Decl, DeclNamed}
 use Rattle.table.proofs.Laws.{first-in}
 use Rattle.order.specs.GroupsFirst.{Earlier, GroupsFirst}
@@ -29,7 +27,7 @@ use Rattle.order.proofs.Sorted.{mem-at}
 use Rattle.order.proofs.Promise.{false-true, first-is, first-some, promise}
 use Rattle.order.proofs.Copies.{decl-length, count-fits}
 use Rattle.order.proofs.Room.{named-decl}
-use Rattle.order.proofs.Stretches.{members-free, decl-at, decl-own, decl-members}
+use Rattle.order.proofs.Stretches.{members-free, decl-at, decl-members}
 
 -- ---- searches by what they find
 

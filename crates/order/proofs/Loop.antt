@@ -1,13 +1,13 @@
 -- The loop of the whole pass: what holds where it begins, after each turn, and at its end. Assumes nothing.
-use mathlib.Core.Path.{_≡_, refl, sym, _∙_, ap, subst}
-use mathlib.Core.List.{List, [], _∷_, map}
+use mathlib.Core.Path.{_≡_, refl, _∙_, ap, subst}
+use mathlib.Core.List.{List, [], _∷_}
 use Prim.Native.Nat.{ℕ, zero, suc, _+_, _*_, _-_, _^_, _<_, _≤_, zero-le}
 use native.Mathlib.Omega.{arith}
 use lib.ListN.{length, take, replicate, length-replicate}
 use lib.Seq.{sets-eq, take-append-seam}
 use Rattle.rules.specs.Faults.{log}
 use Rattle.rules.specs.Visits.{State, resolve, walk, visit, unvisited, visitAll}
-use Rattle.rules.specs.DeclIdentifiers.{references, rootReference, rootReferences, visited, faultOf}
+use Rattle.rules.specs.DeclIdentifiers.{references, rootReference, rootReferences, visited}
 use Rattle.rules.specs.declared.Record.{Record}
 use Rattle.rules.specs.declared.Tally.{Tally}
 use Rattle.faults.specs.Notes.{none}
@@ -15,7 +15,7 @@ use Rattle.faults.proofs.Laws.{noted-none}
 use Rattle.order.specs.declared.Progress.{Progress}
 use Rattle.order.specs.Reachability.{unvisitedCount}
 use Rattle.order.specs.Contract.{Held, Ready, Visited}
-use Rattle.order.proofs.Bounds.{Bounds, resolve-bounds, walk-bounds, visit-bounds, references-length}
+use Rattle.order.proofs.Bounds.{resolve-bounds, walk-bounds, visit-bounds, references-length}
 use Rattle.order.proofs.Ready.{after}
 use Rattle.order.proofs.Sorted.{unvisited-all}
 

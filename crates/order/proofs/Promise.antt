@@ -1,9 +1,9 @@
 -- Demand 3: with unique names pass 2 accepts exactly if every checked reference is allowed and no followed references make a cycle, and
 -- then it lists each declaration but tests once, after all that it refers to. Assumes nothing.
 use mathlib.Core.Path.{_≡_, refl, sym, _∙_, ap, subst}
-use mathlib.Core.Logic.{_⊎_, inl, inr, ⊎-elim}
+use mathlib.Core.Logic.{_⊎_, ⊎-elim}
 use mathlib.Core.Bool.{Bool, true, false, _&&_, _||_}
-use mathlib.Core.List.{List, [], _∷_, _++_, map, List·Memᴰ, List·Memᴰ·head, List·Memᴰ·tail, List·Memᴰ·not-nil, List·Memᴰ·cases-cons, List·Memᴰ·append-cases, List·Memᴰ·eq-of-singleton, Memᴰ·append-left, Memᴰ·append-right, Memᴰ·cast}
+use mathlib.Core.List.{List, [], _∷_, map, List·Memᴰ, List·Memᴰ·head, List·Memᴰ·tail, List·Memᴰ·not-nil, List·Memᴰ·cases-cons, List·Memᴰ·append-cases, List·Memᴰ·eq-of-singleton, Memᴰ·append-left, Memᴰ·append-right, Memᴰ·cast}
 use Prim.Native.Nat.{ℕ, zero, suc, _+_, _-_, _<_, _≤_}
 use native.Mathlib.Nat.{eq-or-lt-of-le}
 use native.Mathlib.Omega.{arith}
@@ -12,12 +12,12 @@ use lib.Dec.{eqb}
 use lib.ListN.{length, getD}
 use Rattle.rules.specs.Choice.{if_then_else_}
 use Rattle.rules.specs.Kinds as kind
-use Rattle.rules.specs.Kinds.{is, isDecl, isNamedDecl, isPacketOrStruct}
+use Rattle.rules.specs.Kinds.{is, isDecl, isNamedDecl}
 use Rattle.rules.specs.Table.{decode, at, bit1, named}
 use Rattle.rules.specs.Places.{first, holdsAt, declNamed}
-use Rattle.rules.specs.Visits.{PlaceFault, State, visitAll}
+use Rattle.rules.specs.Visits.{PlaceFault, visitAll}
 use Rattle.rules.specs.DeclIdentifiers.{groupReference, typeReference, parentReference, testReference, fieldReference, fieldReferences, ownReference, references, rootReference, rootReferences, visited, faultOf, pass2, order}
-use Rattle.rules.specs.Ordering.{Declared, Named, UniqueNames, HeldBy, isTyped, isFollowedType, hasParent, Allowed, Follows, by-group, by-type, by-parent, Sequence, last, next, Acyclic, Listing, Accepts, OrderingPromise, Demand3}
+use Rattle.rules.specs.Ordering.{Declared, Named, UniqueNames, HeldBy, isTyped, isFollowedType, hasParent, Allowed, Follows, by-group, by-type, by-parent, Sequence, last, next, Accepts, OrderingPromise, Demand3}
 use Rattle.rules.specs.declared.Record.{Record}
 use Rattle.rules.specs.declared.Found.{Found}
 use Rattle.rules.specs.declared.Found.the-variants.{At, Nothing}
@@ -25,10 +25,10 @@ use Rattle.rules.specs.declared.Target.the-variants.{DeclNamed}
 use Rattle.rules.specs.declared.Reference.{Reference}
 use Rattle.rules.specs.declared.Reference.the-variants.{Nowhere, Wrong, Follow}
 use Rattle.table.proofs.Laws.{first-in}
-use Rattle.order.specs.Reachability.{Reaches, one, step, TopologicalOrder, Faultless}
+use Rattle.order.specs.Reachability.{Reaches, one, step, Faultless}
 use Rattle.order.proofs.Bounds.{and-true}
 use Rattle.order.proofs.Accepts.{accepted}
-use Rattle.order.proofs.Sorted.{Ordered, in-order, topological, faultless, mem-at, follow-inj, follow-wrong, follow-nowhere, wrong-nowhere}
+use Rattle.order.proofs.Sorted.{Ordered, in-order, topological, faultless, follow-inj, follow-wrong, follow-nowhere, wrong-nowhere}
 
 -- ---- tests
 

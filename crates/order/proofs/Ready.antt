@@ -1,11 +1,11 @@
 -- What the cycle of visit and walk needs at each call and each return, over lists and numbers. Assumes nothing.
-use mathlib.Core.Path.{_≡_, refl, sym, _∙_, ap, subst}
+use mathlib.Core.Path.{_≡_, refl, sym, _∙_, ap}
 use mathlib.Core.Bool.{Bool, true, false, _&&_, not}
 use mathlib.Core.List.{List, [], _∷_, _++_, map, map-append}
-use Prim.Native.Nat.{ℕ, zero, suc, _+_, _*_, _-_, _/_, _^_, _<_, _≤_}
+use Prim.Native.Nat.{ℕ, zero, suc, _+_, _*_, _-_, _^_, _<_, _≤_}
 use native.Mathlib.Nat.{lt-suc-self, add-zero, zero-add}
 use native.Mathlib.Omega.{arith}
-use borrow.Author.Tests.{eq-eqb, ne-eqb, ltb-true}
+use borrow.Author.Tests.{ne-eqb, ltb-true}
 use lib.Dec.{eqb, ltb}
 use lib.ListN.{length, getD, set, length-append, length-set, length-map}
 use lib.Seq.{sets}
@@ -14,8 +14,8 @@ use Rattle.rules.specs.Kinds as kind
 use Rattle.rules.specs.Kinds.{is, isDecl, isNamedDecl, isPacketOrStruct}
 use Rattle.rules.specs.Table.{at, bit1, named}
 use Rattle.rules.specs.Places.{holdsAt, declNamed}
-use Rattle.rules.specs.Faults.{single, Log, log}
-use Rattle.rules.specs.Visits.{PlaceFault, State, markOf, opened, noted, listed, resolve, walk, enter, visit}
+use Rattle.rules.specs.Faults.{single, log}
+use Rattle.rules.specs.Visits.{State, markOf, opened, noted, listed, resolve, walk, enter, visit}
 use Rattle.rules.specs.DeclIdentifiers.{groupReference, typeReference, parentReference, testReference, fieldReference, ownReference, rootReference, fieldReferences, references, faultOf}
 use Rattle.rules.specs.declared.Record.{Record}
 use Rattle.rules.specs.declared.Found.{Found}
@@ -25,7 +25,7 @@ use Rattle.rules.specs.declared.Target.the-variants.{DeclNamed}
 use Rattle.rules.specs.declared.Reference.{Reference}
 use Rattle.rules.specs.declared.Reference.the-variants.{Nowhere, Wrong, Follow}
 use Rattle.faults.specs.Notes as notes
-use Rattle.faults.specs.Notes.{none, notedAll}
+use Rattle.faults.specs.Notes.{none}
 use Rattle.faults.proofs.Laws.{noted-then, noted-one, total-after}
 use Rattle.table.proofs.Laws.{first-in}
 use Rattle.order.specs.declared.Progress.{Progress}

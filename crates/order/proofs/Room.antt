@@ -1,7 +1,6 @@
 -- The records of declarations that are listed once are no more than the table has. Assumes nothing.
-use mathlib.Core.Path.{_≡_, refl, sym, _∙_, ap, subst}
-use mathlib.Core.Logic.{⊎-elim}
-use mathlib.Core.Bool.{Bool, true, false, _&&_}
+use mathlib.Core.Path.{_≡_, refl, sym, _∙_, ap}
+use mathlib.Core.Bool.{Bool, true, false}
 use mathlib.Core.List.{List, [], _∷_, _++_, List·Memᴰ, List·Memᴰ·head, List·Memᴰ·tail, Memᴰ·append-left, Memᴰ·append-right}
 use Prim.Native.Nat.{ℕ, zero, suc, _+_, _-_, _<_, _≤_, zero-le}
 use native.Mathlib.Omega.{arith}
@@ -10,10 +9,10 @@ use lib.Dec.{leb}
 use lib.ListN.{length, getD, set, length-append}
 use lib.Seq.{getD-set-other}
 use Rattle.rules.specs.Choice.{if_then_else_}
-use Rattle.rules.specs.Kinds.{isDecl, isNamedDecl}
+use Rattle.rules.specs.Kinds.{isDecl}
 use Rattle.rules.specs.Table.{at}
 use Rattle.rules.specs.Places.{first, holdsAt, upTo, memberCount}
-use Rattle.rules.specs.DeclIdentifiers.{references, declRecords, allRecords, order, ordered}
+use Rattle.rules.specs.DeclIdentifiers.{declRecords, allRecords, ordered}
 use Rattle.rules.specs.Ordering.{Declared, Accepts}
 use Rattle.rules.specs.declared.Record.{Record}
 use Rattle.rules.specs.declared.Found.{Found}

@@ -4,16 +4,16 @@ use mathlib.Core.Logic.{_⊎_, inl, inr, ⊎-elim}
 use mathlib.Core.Bool.{Bool, true, false}
 use mathlib.Core.List.{List, [], _∷_, _++_, List·Memᴰ, List·Memᴰ·head, List·Memᴰ·tail, List·Memᴰ·not-nil, List·Memᴰ·cases-cons, List·Memᴰ·append-cases, List·Memᴰ·eq-of-singleton, Memᴰ·append-left, Memᴰ·append-right, Memᴰ·cast}
 use Prim.Native.Nat.{ℕ, zero, suc, _+_, _<_, _≤_}
-use native.Mathlib.Nat.{lt-suc-self, le-refl}
+use native.Mathlib.Nat.{le-refl}
 use native.Mathlib.Omega.{arith}
 use native.Mathlib.Decide.{ℕ-discrete}
 use borrow.Author.Tests.{eqb-true, eqb-false}
 use lib.Dec.{eqb}
 use lib.ListN.{length, getD, set, replicate, length-append, length-set, length-replicate, getD-replicate, List·getD-append}
-use lib.Seq.{getD-set-same, getD-set-other, getD-append-seam}
+use lib.Seq.{getD-set-same, getD-set-other}
 use Rattle.rules.specs.declared.Reference.{Reference}
 use Rattle.rules.specs.declared.Reference.the-variants.{Nowhere, Wrong, Follow}
-use Rattle.rules.specs.Visits.{PlaceFault, State, markOf, opened, noted, listed, resolve, walk, enter, visit, unvisited, visitAll}
+use Rattle.rules.specs.Visits.{PlaceFault, State, markOf, opened, noted, listed, walk, enter, visit, unvisited, visitAll}
 use Rattle.order.specs.Reachability.{unvisitedCount}
 use Rattle.order.specs.Reachability.{Reaches, one, step, TopologicalOrder, Faultless}
 use Rattle.order.proofs.Bounds.{unvisited-set, unvisited-opened}

@@ -1,12 +1,12 @@
 -- The records of a declaration: its own comes first, no other declaration is among them, and each is as in the table. Assumes nothing.
-use mathlib.Core.Path.{_≡_, refl, sym, _∙_, ap, subst}
+use mathlib.Core.Path.{_≡_, refl, sym, _∙_, ap}
 use mathlib.Core.Bool.{Bool, true, false}
-use mathlib.Core.List.{List, [], _∷_, _++_}
+use mathlib.Core.List.{List}
 use Prim.Native.Nat.{ℕ, zero, suc, _+_, _-_, _<_, _≤_}
 use native.Mathlib.Omega.{arith}
 use native.Mathlib.Nat.{eq-or-lt-of-le, add-zero}
 use mathlib.Core.Logic.{⊎-elim}
-use lib.ListN.{length, getD, take, drop}
+use lib.ListN.{length, drop}
 use lib.Seq.{getD-take, getD-drop}
 use Rattle.rules.specs.Kinds.{isDecl}
 use Rattle.rules.specs.Table.{at, blank}
@@ -16,7 +16,7 @@ use Rattle.rules.specs.declared.Record.{Record}
 use Rattle.rules.specs.declared.Found.{Found}
 use Rattle.rules.specs.declared.Found.the-variants.{At, Nothing}
 use Rattle.rules.specs.declared.Target.the-variants.{Decl}
-use Rattle.order.proofs.Promise.{at-inj, nothing-at, false-true}
+use Rattle.order.proofs.Promise.{at-inj, nothing-at}
 use Rattle.order.proofs.Copies.{count-to, count-rest, decl-length}
 
 -- the test fails below what a search finds, and everywhere if it finds nothing

@@ -15,7 +15,6 @@ use Rattle.rules.specs.Visits.{State, resolve, walk, visit}
 use Rattle.rules.specs.DeclIdentifiers.{references, fieldReferences, faultOf, pass2, order, ordered, allRecords}
 use Rattle.rules.specs.Ordering.{Accepts}
 use Rattle.rules.specs.declared.Record.{Record}
-use Rattle.rules.specs.declared.Tally.{Tally}
 use Rattle.rules.specs.declared.Reference.{Reference}
 use Rattle.rules.specs.declared.Reference.the-variants.{Nowhere, Wrong, Follow}
 use Rattle.faults.specs.Notes.{none, notedAll}

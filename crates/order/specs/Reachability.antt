@@ -4,7 +4,7 @@ use mathlib.Core.List.{List, [], _∷_, List·Memᴰ}
 use Prim.Native.Nat.{ℕ, zero, suc, _<_}
 use lib.ListN.{length, getD}
 use Rattle.rules.specs.declared.Reference.{Reference}
-use Rattle.rules.specs.declared.Reference.the-variants.{Nowhere, Wrong, Follow}
+use Rattle.rules.specs.declared.Reference.the-variants.{Wrong, Follow}
 
 -- one or more followed references lead from d to e
 pub data Reaches (f : ℕ → List Reference) : ℕ → ℕ → Type 0 where

@@ -1,7 +1,7 @@
 -- The proof of the cycle of calls {visit, walk}. Each measure is the pair of the unvisited places and the fields left, as one number; the laws are in proofs/Ready.antt.
 -- Assumes nothing.
 use borrow.Author.Needs.{needs}
-use mathlib.Core.Path.{refl, sym, _∙_}
+use mathlib.Core.Path.{sym, _∙_}
 use mathlib.Core.Logic.{⊎-elim}
 use Prim.Native.Nat.{ℕ, _<_, _+_, _*_, _-_}
 use native.Mathlib.Omega.{arith}
