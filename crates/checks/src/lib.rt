@@ -1,36 +1,67 @@
 // The passes that find faults place by place: pass 1, and passes 3 to 9 on the listed order.
+mod array_fields;
+mod field_identifiers;
+mod fixed_fields;
+mod members;
+mod padding_fields;
+mod payload_fields;
+mod repeats;
 mod scope;
+mod size_fields;
 
 use faults::Finding;
+use rules::Fault;
 use rules::Tally;
 ghost use mathlib.Core.Path.{_≡_};
 ghost use Prim.Native.Nat.{_+_, _^_, _<_, _≤_};
+ghost use Rattle.rules.specs.Choice.{when};
 ghost use Rattle.rules.specs.Table.{decode};
 ghost use Rattle.rules.specs.Faults.{log, logged};
 ghost use Rattle.rules.specs.Scopes.{pass1};
 ghost use Rattle.faults.specs.Notes.{findings, notedAll};
 ghost use Rattle.checks.specs.Passes.{passAt, passFaults};
 
-// What a pass finds at a place.
+// A fault where a test holds.
+pub(crate) fn when(b: bool, f: Fault) -> Finding
+    ensures { λ r. ⌜ findings r ≡ when b f ⌝ }
+{
+    if b {
+        return Finding::One(f);
+    }
+    Finding::Fine
+}
+
+// What a pass finds at a place, where it is at most one fault.
 fn finding(pass: u8, t: &[u8], p: usize) -> Finding
+    requires { ⌜ (pass ≡ 4 → ⊥) × (pass ≡ 5 → ⊥) ⌝ }
     ensures { λ r. ⌜ findings r ≡ passAt pass (decode (now (t .entry))) p ⌝ }
 {
     match pass {
         1 => scope::at_place(t, p),
+        3 => field_identifiers::at_place(t, p),
+        6 => fixed_fields::at_place(t, p),
+        7 => payload_fields::at_place(t, p),
+        8 => array_fields::at_place(t, p),
+        9 => padding_fields::at_place(t, p),
         _ => Finding::Fine,
     }
 }
 
 // Notes what a pass finds at a place.
 fn note_at(pass: u8, t: &[u8], p: usize, tally: Tally, buffer: &mut [u8]) -> Tally
-    requires { ⌜ tally .total + 2 < 2 ^ 64 ⌝ }
+    requires { ⌜ (pass ≡ 4 → ⊥) × (tally .total + 2 < 2 ^ 64) ⌝ }
     ensures { λ r. ⌜ (log r (now (buffer .exit)) ≡ notedAll (log tally (now (buffer .entry))) (passAt pass (decode (now (t .entry))) p)) × (r .total ≤ tally .total + 2) ⌝ }
 {
-    faults::note_found(tally, buffer, finding(pass, t, p))
+    if pass != 5 {
+        return faults::note_found(tally, buffer, finding(pass, t, p));
+    }
+    let once = faults::note_found(tally, buffer, size_fields::size_again(t, p));
+    faults::note_found(once, buffer, size_fields::size_target(t, p))
 }
 
 // All faults of a pass.
 pub fn run(pass: u8, t: &[u8], buffer: &mut [u8]) -> Tally
+    requires { ⌜ (pass ≡ 4 → ⊥) ⌝ }
     ensures { λ r. ⌜ log r (now (buffer .exit)) ≡ logged (now (buffer .entry)) (passFaults pass (decode (now (t .entry)))) ⌝ }
 {
     let n = table::count(t);

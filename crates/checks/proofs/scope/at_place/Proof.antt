@@ -18,20 +18,20 @@ unfolding pass1At redeclared
 returns-2 c =
     let a = c .before in
     let q = a .before .before in
-    let n = q .before .before in
-    let i = n .before in
+    let e = q .before .before in
+    let i = e .before in
     let s = i .before in
     let t = s .before in
-    rw (c .double .ensures, ← t .at .ensures, sym (s .is-named-decl .ensures) ∙ not-false _ (i .if1 .left), ← n .nearest .ensures, q .q .given .1, a .at2 .ensures, ← t .at .ensures)
+    rw (c .double .ensures, ← t .at .ensures, sym (s .is-named-decl .ensures) ∙ not-false _ (i .if1 .left), ← e .earlier .ensures, q .q .given .1, a .at2 .ensures, ← t .at .ensures)
 
 returns-3 : tie.Need-returns-3
 unfolding pass1At redeclared
 returns-3 c =
-    let n = c .before .before in
-    let i = n .before in
+    let e = c .before .before in
+    let i = e .before in
     let s = i .before in
     let a = s .before in
-    rw (← a .at .ensures, sym (s .is-named-decl .ensures) ∙ not-false _ (i .if1 .left), ← n .nearest .ensures, c .enum-told .given .1)
+    rw (← a .at .ensures, sym (s .is-named-decl .ensures) ∙ not-false _ (i .if1 .left), ← e .earlier .ensures, c .enum-told .given .1)
 
 pub at-place-spec : {M : Type 1} → statement M
 at-place-spec =
