@@ -1,16 +1,16 @@
 -- Laws that several passes cite. Assumes nothing.
-use Prim.Native.Nat.{ℕ, zero, suc, _+_, _-_, _≤_}
+use Prim.Native.Nat.{ℕ, zero, suc, _+_, _-_, _<_, _≤_}
 use mathlib.Core.Path.{_≡_, refl, sym, ap, _∙_}
 use mathlib.Core.List.{List, [], _++_, append-nil}
 use mathlib.Core.Bool.{Bool, true, false, _&&_}
-use borrow.Author.Tests.{leb-true}
+use borrow.Author.Tests.{leb-true, ne-eqb, lt-ltb, le-ltb}
 use native.Mathlib.Omega.{arith}
 use lib.ListN.{length}
 use lib.Dec.{eqb, leb}
 use Rattle.rules.specs.Choice.{if_then_else_}
 use Rattle.rules.specs.Kinds.{isSize}
 use Rattle.rules.specs.Places.{first, each, holdsAt, firstFrom, foundInside}
-use Rattle.rules.specs.Faults.{Log, log}
+use Rattle.rules.specs.Faults.{Log, log, logged}
 use Rattle.rules.specs.Scopes.{pass1At, pass1}
 use Rattle.rules.specs.FieldIdentifiers.{pass3At, pass3}
 use Rattle.rules.specs.EnumDeclarations.{pass4At, pass4}
@@ -19,14 +19,16 @@ use Rattle.rules.specs.FixedFields.{pass6At, pass6}
 use Rattle.rules.specs.PayloadFields.{pass7At, pass7}
 use Rattle.rules.specs.ArrayFields.{pass8At, pass8}
 use Rattle.rules.specs.PaddingFields.{pass9At, pass9}
-use Rattle.rules.specs.Replies.{laterFaults}
+use Rattle.rules.specs.Replies.{laterFaults, faultsOf, findsFaults}
 use Rattle.rules.specs.declared.Record.{Record}
 use Rattle.rules.specs.declared.Fault.{Fault}
 use Rattle.rules.specs.declared.Tally.{Tally}
 use Rattle.rules.specs.declared.Target.{Target}
+use Rattle.rules.specs.declared.Found.the-variants.{At}
+use Rattle.rules.specs.DeclIdentifiers.{ordered}
 use Rattle.faults.specs.Notes.{findings, notedAll}
 use Rattle.faults.specs.declared.Finding.{Finding}
-use Rattle.faults.proofs.Laws.{noted-total, noted-then}
+use Rattle.faults.proofs.Laws.{noted-total, noted-then, logged-none}
 use Rattle.checks.specs.Passes.{passAt, passFaults}
 
 each-none : (n : ℕ) → each {A = Fault} (λ p. []) n ≡ []

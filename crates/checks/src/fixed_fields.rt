@@ -1,5 +1,6 @@
 // Pass 6, `check_fixed_fields`: fixed values wider than their field, and fixed tags that no enum has.
 use crate::members::has_member;
+use enums::repeats::when;
 use faults::Finding;
 use rules::Found;
 use rules::Target;
@@ -34,7 +35,7 @@ pub(crate) fn at_place(t: &[u8], p: usize) -> Finding
     let r = table::at(t, p);
     let k = r.kind;
     if k == 27 {
-        return crate::when(r.one < widths::bit_width(r.two), faults::single(32, r));
+        return when(r.one < widths::bit_width(r.two), faults::single(32, r));
     }
     if k == 28 {
         return enum_fault(t, p, table::search::decl_named(t, r.second));

@@ -5,31 +5,19 @@ mod fixed_fields;
 mod members;
 mod padding_fields;
 mod payload_fields;
-mod repeats;
 mod scope;
 mod size_fields;
 
 use faults::Finding;
-use rules::Fault;
 use rules::Tally;
 ghost use mathlib.Core.Path.{_≡_};
 ghost use Prim.Native.Nat.{_+_, _^_, _<_, _≤_};
-ghost use Rattle.rules.specs.Choice.{when};
+ghost use lib.ListN.{length};
 ghost use Rattle.rules.specs.Table.{decode};
 ghost use Rattle.rules.specs.Faults.{log, logged};
 ghost use Rattle.rules.specs.Scopes.{pass1};
 ghost use Rattle.faults.specs.Notes.{findings, notedAll};
 ghost use Rattle.checks.specs.Passes.{passAt, passFaults};
-
-// A fault where a test holds.
-pub(crate) fn when(b: bool, f: Fault) -> Finding
-    ensures { λ r. ⌜ findings r ≡ when b f ⌝ }
-{
-    if b {
-        return Finding::One(f);
-    }
-    Finding::Fine
-}
 
 // What a pass finds at a place, where it is at most one fault.
 fn finding(pass: u8, t: &[u8], p: usize) -> Finding
@@ -59,8 +47,8 @@ fn note_at(pass: u8, t: &[u8], p: usize, tally: Tally, buffer: &mut [u8]) -> Tal
     faults::note_found(once, buffer, size_fields::size_target(t, p))
 }
 
-// All faults of a pass.
-pub fn run(pass: u8, t: &[u8], buffer: &mut [u8]) -> Tally
+// All faults of a pass other than 4.
+fn run_places(pass: u8, t: &[u8], buffer: &mut [u8]) -> Tally
     requires { ⌜ (pass ≡ 4 → ⊥) ⌝ }
     ensures { λ r. ⌜ log r (now (buffer .exit)) ≡ logged (now (buffer .entry)) (passFaults pass (decode (now (t .entry)))) ⌝ }
 {
@@ -74,9 +62,20 @@ pub fn run(pass: u8, t: &[u8], buffer: &mut [u8]) -> Tally
     tally
 }
 
+// All faults of a pass. Only pass 4 needs a bound on the table.
+pub fn run(pass: u8, t: &[u8], buffer: &mut [u8]) -> Tally
+    requires { ⌜ (pass ≡ 4 → length (decode (now t)) ≤ 1600) ⌝ }
+    ensures { λ r. ⌜ log r (now (buffer .exit)) ≡ logged (now (buffer .entry)) (passFaults pass (decode (now (t .entry)))) ⌝ }
+{
+    if pass == 4 {
+        return enums::check_enum_declarations(t, buffer);
+    }
+    run_places(pass, t, buffer)
+}
+
 // All faults of pass 1.
 pub fn scope_new(t: &[u8], buffer: &mut [u8]) -> Tally
     ensures { λ r. ⌜ log r (now (buffer .exit)) ≡ logged (now (buffer .entry)) (pass1 (decode (now (t .entry)))) ⌝ }
 {
-    run(1, t, buffer)
+    run_places(1, t, buffer)
 }

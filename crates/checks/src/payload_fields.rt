@@ -1,5 +1,6 @@
 // Pass 7, `check_payload_fields`: a second Payload or Body, and a parent that has none though a child has fields.
 use crate::members::has_member;
+use enums::repeats::when;
 use faults::Finding;
 use rules::Found;
 use rules::Target;
@@ -23,7 +24,7 @@ fn second_payload(t: &[u8], p: usize, found: Found) -> Finding
     ensures { λ r. ⌜ findings r ≡ secondPayload (decode (now (t .entry))) p found ⌝ }
 {
     match found {
-        Found::At(q) => crate::when(q < p, faults::double(36, table::at(t, p), table::at(t, q))),
+        Found::At(q) => when(q < p, faults::double(36, table::at(t, p), table::at(t, q))),
         Found::Nothing => Finding::Fine,
     }
 }
@@ -72,7 +73,7 @@ fn missing_payload(t: &[u8], d: usize, found: Found) -> Finding
     ensures { λ r. ⌜ findings r ≡ missingPayload (decode (now (t .entry))) d found ⌝ }
 {
     match found {
-        Found::At(_) => { crate::when(!has_payload(t, d), faults::single(37, table::at(t, d))) }
+        Found::At(_) => { when(!has_payload(t, d), faults::single(37, table::at(t, d))) }
         Found::Nothing => Finding::Fine,
     }
 }

@@ -1,7 +1,7 @@
--- `checks::when` meets its contract. Assumes nothing.
+-- `enums::repeats::when` meets its contract. Assumes nothing.
 use Rattle.rules.specs.Choice.{when}
-use Rattle.checks.proofs.when.Statement.{statement}
-use Rattle.checks.proofs.when.Tie as tie
+use Rattle.enums.proofs.repeats.when.Statement.{statement}
+use Rattle.enums.proofs.repeats.when.Tie as tie
 
 returns : tie.Need-returns
 unfolding when

@@ -1,0 +1,19 @@
+-- `enums::tags::note_default` meets its contract. Assumes nothing.
+use borrow.Author.Needs.{needs}
+use mathlib.Core.List.{append-nil}
+use Rattle.rules.specs.EnumDeclarations.{defaultFaults}
+use Rattle.enums.proofs.tags.note_default.Statement.{statement}
+use Rattle.enums.proofs.tags.note_default.Tie as tie
+
+returns : tie.Need-returns
+unfolding defaultFaults
+returns c =
+    let n = c .before .before in
+    let a = n .before .before in
+    let g = a .before in
+    let t = g .before in
+    rw (← t .at .ensures, ← g .again .ensures, ← a .again2 .ensures) (rw append-nil at (n .note-three .ensures))
+
+pub note-default-spec : {M : Type 1} → statement M
+note-default-spec =
+    tie.close (tie.spec (λ c κs. search needs) (λ c κs. search needs) (λ c κs. search needs) (λ c κs. search needs) (λ c. search needs) returns)

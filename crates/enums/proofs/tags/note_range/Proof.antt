@@ -1,0 +1,23 @@
+-- `enums::tags::note_range` meets its contract. Assumes nothing.
+use borrow.Author.Needs.{needs}
+use Rattle.rules.specs.EnumDeclarations.{rangeFaults}
+use Rattle.enums.proofs.tags.note_range.Statement.{statement}
+use Rattle.enums.proofs.tags.note_range.Tie as tie
+
+returns : tie.Need-returns
+unfolding rangeFaults
+returns c =
+    let n = c .before .before in
+    let w = n .before .before in
+    let h = w .before in
+    let s = h .before in
+    let a = s .before in
+    let t = a .before in
+    rw (← t .at .ensures, ← a .again .ensures, ← s .single .ensures, ← h .when .ensures, ← w .when2 .ensures) (n .note-three .ensures)
+
+pub note-range-spec : {M : Type 1} → statement M
+note-range-spec =
+    tie.close
+    (tie.spec
+    (λ c κs. search needs) (λ c κs. search needs) (λ c κs. search needs) (λ c κs. search needs) (λ c κs. search needs)
+    (λ c κs. search needs) (λ c. search needs) returns)
