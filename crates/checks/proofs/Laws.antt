@@ -30,6 +30,8 @@ use Rattle.faults.specs.Notes.{findings, notedAll}
 use Rattle.faults.specs.declared.Finding.{Finding}
 use Rattle.faults.proofs.Laws.{noted-total, noted-then, logged-none}
 use Rattle.checks.specs.Passes.{passAt, passFaults}
+use Rattle.checks.specs.Later.{outcome, findsLater, byLater}
+use Rattle.checks.specs.declared.Checked.the-variants.{Faulty}
 
 each-none : (n : ℕ) → each {A = Fault} (λ p. []) n ≡ []
 unfolding each
@@ -81,3 +83,29 @@ both false b e = let z : _≡_ {A = ℕ} 0 1 = cc in absurd (omega arith)
 
 pub size-kind : (k : ℕ) → isSize k ≡ true → (22 ≤ k) × (k ≤ 24)
 size-kind k e = let s = both (leb 22 k) (leb k 24) e in (leb-true 22 k (s .0), leb-true k 24 (s .1))
+
+-- pass k, one of 3 to 9, has run
+module _ (rs : List Record) (b : List ℕ) (k : ℕ) (h : 3 ≤ k) (t : Tally) (l : List ℕ) (e : log t l ≡ logged b (passFaults k rs)) where
+  ran-later : log t l ≡ logged b (laterFaults k rs)
+  unfolding passFaults
+  ran-later = rw (ne-eqb k 1 (λ z. omega arith)) at e
+
+  total-later : t .total ≡ length (laterFaults k rs)
+  unfolding logged
+  total-later = ap (λ (x : Log). x .tally .total) ran-later
+
+  -- it finds none, and writes nothing
+  pub clean : t .total ≤ 0 → (l ≡ b) × (findsLater rs k ≡ false)
+  clean z =
+      let none : length (laterFaults k rs) ≤ 0 = omega (arith, total-later) in
+      (ap (λ (x : Log). x .buffer) (ran-later ∙ logged-none b (laterFaults k rs) none), le-ltb 0 (length (laterFaults k rs)) none)
+
+  -- it finds some
+  pub faulty : 0 < t .total → (findsLater rs k ≡ true) × (outcome (Faulty k (t .total)) l ≡ byLater rs b (At k))
+  unfolding byLater
+  faulty z = (lt-ltb 0 (length (laterFaults k rs)) (omega (arith, total-later)), rw (total-later) (ap (λ (x : Log). outcome (Faulty k (length (laterFaults k rs))) (x .buffer)) ran-later))
+
+-- where passes 1 and 2 find no faults, the lowest pass that finds some is the lowest of 3 to 9 on the listed order
+pub lowest-later : (rs : List Record) → findsFaults rs 1 ≡ false → findsFaults rs 2 ≡ false → first (findsFaults rs) 1 9 ≡ first (findsLater (ordered rs)) 3 7
+unfolding first faultsOf
+lowest-later rs e h = rw (first, e, first, h)

@@ -18,6 +18,7 @@ ghost use Rattle.rules.specs.Faults.{log, logged};
 ghost use Rattle.rules.specs.Scopes.{pass1};
 ghost use Rattle.faults.specs.Notes.{findings, notedAll};
 ghost use Rattle.checks.specs.Passes.{passAt, passFaults};
+ghost use Rattle.checks.specs.Later.{outcome, later};
 
 // What a pass finds at a place, where it is at most one fault.
 fn finding(pass: u8, t: &[u8], p: usize) -> Finding
@@ -78,4 +79,26 @@ pub fn scope_new(t: &[u8], buffer: &mut [u8]) -> Tally
     ensures { λ r. ⌜ log r (now (buffer .exit)) ≡ logged (now (buffer .entry)) (pass1 (decode (now (t .entry)))) ⌝ }
 {
     run_places(1, t, buffer)
+}
+
+// The answer of passes 3 to 9: the lowest that finds faults and their total, or none.
+pub enum Checked {
+    Faulty(u8, usize),
+    Clean,
+}
+
+// Passes 3 to 9 in order, up to the first that finds faults. Only that one writes.
+pub fn run_later(t: &[u8], buffer: &mut [u8]) -> Checked
+    requires { ⌜ length (decode (now t)) ≤ 1600 ⌝ }
+    ensures { λ r. ⌜ outcome r (now (buffer .exit)) ≡ later (decode (now (t .entry))) (now (buffer .entry)) ⌝ }
+{
+    let mut pass = 3;
+    while pass < 10 {
+        let tally = run(pass, t, buffer);
+        if 0 < tally.total {
+            return Checked::Faulty(pass, tally.total);
+        }
+        pass += 1;
+    }
+    Checked::Clean
 }
