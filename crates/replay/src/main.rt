@@ -1,4 +1,5 @@
 // Replays stored tables through parts of the analyzer: a line for each case says what the part answered.
+use checks::Checked;
 use rules::Layout;
 use rules::Tally;
 use stored::Case;
@@ -47,11 +48,60 @@ fn print_order(input: &[u8], faults: &mut [u8], out: &mut [u8]) {
     stored::print(stored::digest(out), b'\n');
 }
 
+// How many of the faults found a buffer of this length keeps.
+fn kept(found: usize, length: usize) -> usize {
+    let room = length / faults::FAULT_LENGTH;
+    if found < room {
+        return found;
+    }
+    room
+}
+
+// The lowest of passes 3 to 9 that finds faults, or 0, and its faults.
+fn print_later(listed: &[u8], faults: &mut [u8]) {
+    if 1600 < table::count(listed) {
+        return;
+    }
+    match checks::run_later(listed, faults) {
+        Checked::Faulty(pass, total) => {
+            stored::print(pass as u64, b' ');
+            let tally = Tally {
+                kept: kept(total, faults.len()),
+                total,
+            };
+            print_faults(tally, faults, b'\n');
+        }
+        Checked::Clean => {
+            stored::print(0, b' ');
+            print_faults(faults::no_faults(), faults, b'\n');
+        }
+    }
+}
+
+// Passes 3 to 9 on the table that pass 2 lists.
+fn print_checks(input: &[u8], faults: &mut [u8], out: &mut [u8]) {
+    stored::fill(faults);
+    if 1600 < table::count(input) {
+        return;
+    }
+    if out.len() < 64000 {
+        return;
+    }
+    let outcome = order::check_decl_identifiers(input, faults, out);
+    let n = outcome.records;
+    if 1600 < n {
+        return;
+    }
+    let end = 40 * n;
+    print_later(&out[..end], faults);
+}
+
 fn print_part(part: u32, input: &[u8], faults: &mut [u8], out: &mut [u8]) {
     match part {
         1 => print_layout(layout::check_layout(input)),
         2 => print_scope(input, faults),
         3 => print_order(input, faults, out),
+        4 => print_checks(input, faults, out),
         _ => stored::print(0, b'?'),
     }
 }
