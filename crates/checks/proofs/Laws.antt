@@ -57,6 +57,15 @@ pass-faults k rs =
     (each-if (eqb k 8) (pass8At rs) _ n
     (each-if (eqb k 9) (pass9At rs) _ n (each-none n))))))))
 
+-- pass 1 and the later passes are those of the rules
+pub pass-one : (rs : List Record) → passFaults 1 rs ≡ pass1 rs
+unfolding passFaults
+pass-one rs = refl
+
+pub pass-later : (k : ℕ) (rs : List Record) → 3 ≤ k → passFaults k rs ≡ laterFaults k rs
+unfolding passFaults
+pass-later k rs h = rw (ne-eqb k 1 (λ z. omega arith))
+
 -- the faults of a place, noted: one finding, or two
 module _ (t : Tally) (b : List ℕ) (r : Tally) (l : List ℕ) (x : Finding) (fs : List Fault) (e : log r l ≡ notedAll (log t b) (findings x)) (h : findings x ≡ fs) where
   pub one-more : r .total ≤ t .total + 1
@@ -87,8 +96,7 @@ size-kind k e = let s = both (leb 22 k) (leb k 24) e in (leb-true 22 k (s .0), l
 -- pass k, one of 3 to 9, has run
 module _ (rs : List Record) (b : List ℕ) (k : ℕ) (h : 3 ≤ k) (t : Tally) (l : List ℕ) (e : log t l ≡ logged b (passFaults k rs)) where
   ran-later : log t l ≡ logged b (laterFaults k rs)
-  unfolding passFaults
-  ran-later = rw (ne-eqb k 1 (λ z. omega arith)) at e
+  ran-later = e ∙ ap (logged b) (pass-later k rs h)
 
   total-later : t .total ≡ length (laterFaults k rs)
   unfolding logged

@@ -15,7 +15,7 @@ use Rattle.rules.specs.Replies.{laterFaults}
 use Rattle.rules.specs.declared.Record.{Record}
 use Rattle.rules.specs.declared.Fault.{Fault}
 
--- the faults of pass k
+-- the faults of pass k, which is 1 or 3 to 9: pass 2 is not among them, and other numbers have none
 unfoldable pub passFaults : ℕ → List Record → List Fault
 passFaults k rs = if eqb k 1 then pass1 rs else laterFaults k rs
 

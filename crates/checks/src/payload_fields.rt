@@ -73,7 +73,7 @@ fn missing_payload(t: &[u8], d: usize, found: Found) -> Finding
     ensures { λ r. ⌜ findings r ≡ missingPayload (decode (now (t .entry))) d found ⌝ }
 {
     match found {
-        Found::At(_) => { when(!has_payload(t, d), faults::single(37, table::at(t, d))) }
+        Found::At(_) => when(!has_payload(t, d), faults::single(37, table::at(t, d))),
         Found::Nothing => Finding::Fine,
     }
 }

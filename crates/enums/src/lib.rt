@@ -41,7 +41,7 @@ fn note_tags(t: &[u8], d: usize, n: usize, tally: Tally, buffer: &mut [u8]) -> T
     kept
 }
 
-// What stands at d, if it is an enum: its tags, and then its ranges.
+// What stands at d, if it is an enum: its tags, and then its ranges. 1,600 tags have at most 1,600 × 1,603 faults, and 1,600 overlaps.
 fn note_enum(t: &[u8], d: usize, s: &mut [u16], tally: Tally, buffer: &mut [u8]) -> Tally
     requires { ⌜ (d < length (decode (now t))) × (length (decode (now t)) ≤ 1600) × (1600 ≤ length (now s)) × (tally .total + 4000000 < 2 ^ 64) ⌝ }
     ensures { λ r. ⌜ log r (now (buffer .exit)) ≡ notedAll (log tally (now (buffer .entry))) (pass4At (decode (now (t .entry))) d) ⌝ }
