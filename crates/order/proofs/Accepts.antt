@@ -1,4 +1,4 @@
--- A pass over sound declarations finds no fault. Assumes nothing.
+-- Visits of faultless declarations find no fault. Assumes nothing.
 use mathlib.Core.Path.{_≡_, refl, sym, ap, subst}
 use mathlib.Core.Logic.{_⊎_, inl, inr, ⊎-elim}
 use mathlib.Core.Bool.{Bool, true, false}
@@ -44,7 +44,7 @@ reaches-on (step m l) n = step m (reaches-on l n)
 
 -- ---- no fault
 
--- the marks that are open in s′ are open in s, and s′ has no fault
+-- what is being visited in s′ is so in s, and s′ has no fault
 record Clean (s s′ : State) : Type 0 where
   none : s′ .faults ≡ []
   opens : (i : ℕ) → markOf s′ i ≡ 1 → markOf s i ≡ 1
@@ -53,7 +53,7 @@ module _ (f : ℕ → List Reference) (D : ℕ → Type 0)
     (closed : (d e : ℕ) → D d → List·Memᴰ (Follow e) (f d) → D e)
     (right : (d : ℕ) → D d → (c p : ℕ) → List·Memᴰ (Wrong c p) (f d) → ⊥)
     (acyclic : (d : ℕ) → D d → Reaches f d d → ⊥) where
-  -- v keeps clean at every declaration that every open one leads to
+  -- v finds no fault at a declaration that all that are being visited reach
   abbrev StaysClean : (ℕ → State → State) → Type 0
   StaysClean v = (d : ℕ) (s : State) → D d → ((e : ℕ) → markOf s e ≡ 1 → Reaches f e d) → s .faults ≡ [] → Clean s (v d s)
 

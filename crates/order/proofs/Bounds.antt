@@ -26,7 +26,7 @@ pub not-true : (b : Bool) → not b ≡ true → b ≡ false
 not-true true e = let z : _≡_ {A = ℕ} 0 1 = cc in absurd (omega arith)
 not-true false e = refl
 
--- a mark that is set to no 0 makes none unvisited
+-- a mark set to anything but 0 leaves no more places unvisited
 pub unvisited-set : (l : List ℕ) (d v : ℕ) → unvisitedCount (set l d (suc v)) ≤ unvisitedCount l
 unfolding unvisitedCount
 unvisited-set [] d v = zero-le
@@ -35,7 +35,7 @@ unvisited-set (suc m ∷ l) zero v = le-refl _
 unvisited-set (zero ∷ l) (suc d) v = let h = unvisited-set l d v in omega arith
 unvisited-set (suc m ∷ l) (suc d) v = unvisited-set l d v
 
--- a unvisitedCount mark that is opened is one unvisitedCount mark less
+-- a place that is opened is one unvisited place less
 pub unvisited-opened : (l : List ℕ) (d : ℕ) → getD l d 2 ≡ 0 → unvisitedCount l ≡ suc (unvisitedCount (set l d 1))
 unfolding unvisitedCount
 unvisited-opened [] d e = absurd (omega arith)
@@ -44,13 +44,14 @@ unvisited-opened (suc m ∷ l) zero e = absurd (omega arith)
 unvisited-opened (zero ∷ l) (suc d) e = ap suc (unvisited-opened l d e)
 unvisited-opened (suc m ∷ l) (suc d) e = unvisited-opened l d e
 
--- within a list the default is of no account
+-- within a list the default does not matter
 pub getD-any : (l : List ℕ) (d x y : ℕ) → d < length l → getD l d x ≡ getD l d y
 getD-any [] d x y h = absurd (omega arith)
 getD-any (a ∷ l) zero x y h = refl
 getD-any (a ∷ l) (suc d) x y h = getD-any l d x y (omega arith)
 
--- from s to s′ no mark becomes unvisited; the list grows by no more than the unvisitedCount marks fall; the faults by x, and 2048 for each that falls
+-- from s to s′ no place becomes unvisited; the list grows by no more than the unvisited places fall; the
+-- faults by x, and 2048 for each place that falls
 pub record Bounds (s s′ : State) (x : ℕ) : Type 0 where
   pub falls : unvisitedCount (s′ .marks) ≤ unvisitedCount (s .marks)
   pub size : length (s′ .marks) ≡ length (s .marks)

@@ -8,14 +8,15 @@ use lib.ListN.{length, take, drop, replicate}
 use lib.Seq.{take-at}
 use Rattle.rules.specs.Bytes.{written}
 use Rattle.rules.specs.Table.{decode}
-use Rattle.rules.specs.Faults.{log, logged}
+use Rattle.rules.specs.Faults.{Log, log, logged}
 use Rattle.rules.specs.DeclIdentifiers.{visited, faultOf, pass2, order, ordered, allRecords}
 use Rattle.rules.specs.Ordering.{Accepts}
 use Rattle.rules.specs.declared.Fault.{Fault}
 use Rattle.faults.specs.Notes.{none}
 use Rattle.faults.proofs.Laws.{noted-logged, total-after}
 use Rattle.order.specs.declared.Progress.{Progress}
-use Rattle.order.specs.Contract.{Held, Placed, Checked, allBytes}
+use Rattle.order.specs.declared.Outcome.{Outcome}
+use Rattle.order.specs.Contract.{Held, Placed, Ordered, Checked, allBytes}
 use Rattle.order.proofs.Loop.{order-read, order-short}
 use Rattle.order.proofs.Promise.{listed-declared}
 use Rattle.order.proofs.Copies.{all-length, all-decode}
@@ -89,6 +90,7 @@ module _ (t o₀ f₀ m o f : List ℕ) (a : Progress) (h : Held (decode t) o₀
           faults = faults-logged;
           accepted = λ _. record {
             count = count;
+            short = omega (arith, count, ordered-short (decode t) accepts);
             bytes = bytes;
             records = rw (bytes, take-at (allBytes t (order (decode t))) (drop (0 + length (allBytes t (order (decode t)))) out) (40 * n) long) (ordered-bytes t accepts);
           };
@@ -103,3 +105,16 @@ zeros (suc n) (suc m) h = ap (λ (l : List ℕ). 0 ∷ l) (zeros n m (omega arit
 -- the first r of m marks of places not visited
 pub part-zeros : (r n m : ℕ) → r ≡ n → n ≤ m → take (r - 0) (replicate {A = ℕ} m 0) ≡ replicate n 0
 part-zeros r n m e h = let z : r - 0 ≡ n = omega arith in rw z (zeros n m h)
+
+-- ---- what a caller reads from the total
+
+module _ (t b out b′ out′ : List ℕ) (r : Outcome) (h : Checked t b out b′ out′ r) where
+  pub checked-total : r .tally .total ≡ length (pass2 (decode t))
+  unfolding logged
+  checked-total = ap (λ (l : Log). l .tally .total) (h .faults)
+
+  pub checked-ordered : r .tally .total ≡ 0 → Ordered t out out′ (r .records)
+  checked-ordered z = h .accepted (none-found (pass2 (decode t)) (sym checked-total ∙ z))
+
+  pub checked-unchanged : 0 < r .tally .total → out′ ≡ out
+  checked-unchanged z = h .refused (some-found (pass2 (decode t)) (omega (arith, checked-total))) .1

@@ -1,5 +1,5 @@
--- In the listed table of an accepted one with unique names every group stands before the declaration that holds a field of it.
--- Assumes nothing.
+-- The listed table of an accepted one with unique names: its names are unique, its fields stand in declarations, and every group
+-- stands before the declaration that holds a field of it. Assumes nothing.
 use mathlib.Core.Path.{_≡_, refl, sym, _∙_, ap, subst}
 use mathlib.Core.Bool.{Bool, true, false}
 use mathlib.Core.List.{List, [], _∷_, _++_}
@@ -150,6 +150,35 @@ module _ (rs : List Record) where
         let name : at rs (getD l (w .0) 0) .name ≡ x = ap (λ (r : Record). r .name) same ∙ eqb-true (at os i .name) x (y .1) in
         w .2 ∙ ap (offset l) (listing .once (w .0) k (w .1) h (u (getD l (w .0) 0) (getD l k 0) (declared-at (w .0) (w .1)) (n .0) (name ∙ sym (n .1)))))
 
+    -- names are unique in the listed table, too
+    pub ordered-unique : UniqueNames (ordered rs)
+    unfolding ordered l os
+    ordered-unique d e dd de n =
+        let v = decl-place d (dd .0) (named-is-decl (at os d .kind) (dd .1)) in
+        let w = decl-place e (de .0) (named-is-decl (at os e .kind) (de .1)) in
+        let dv : at os d ≡ at rs (getD l (v .0) 0) = ap (at os) (v .2) ∙ own-at (v .0) (v .1) in
+        let ew : at os e ≡ at rs (getD l (w .0) 0) = ap (at os) (w .2) ∙ own-at (w .0) (w .1) in
+        let name : at rs (getD l (v .0) 0) .name ≡ at rs (getD l (w .0) 0) .name = ap (λ (r : Record). r .name) (sym dv) ∙ n ∙ ap (λ (r : Record). r .name) ew in
+        v .2 ∙ ap (offset l) (listing .once (v .0) (w .0) (v .1) (w .1) (u _ _ (declared-at (v .0) (v .1)) (declared-at (w .0) (w .1)) name)) ∙ sym (w .2)
+
+    nearest-decl : (p i j : ℕ) (x : i < length l) → 0 < j → j < length (declRecords rs (getD l i 0)) → p ≡ offset l i + j → nearest (holdsAt os Decl) p ≡ At (offset l i)
+    nearest-decl p i j x z y e =
+        nearest-is (holdsAt os Decl) p (offset l i) (omega arith)
+        (rw (own-at i x) (named-decl rs (getD l i 0) (declared-at i x)))
+        (λ q s t.
+        let n : q ≡ offset l i + (q - offset l i) = omega arith in
+        ap (λ (m : ℕ). isDecl (at os m .kind)) n ∙ member-free i (q - offset l i) x (omega arith) (omega arith))
+
+    -- every record of the listed table but declarations stands in a declaration
+    pub ordered-held : (p : ℕ) → p < length (ordered rs) → isDecl (at (ordered rs) p .kind) ≡ false → (d : ℕ) × (nearest (holdsAt (ordered rs) Decl) p ≡ At d)
+    unfolding ordered l os
+    ordered-held p h k = let w = place-of l p h in go (w .0) (w .1) (w .2) (w .3) (w .4)
+      where
+        go : (i j : ℕ) → i < length l → j < length (declRecords rs (getD l i 0)) → p ≡ offset l i + j → (d : ℕ) × (nearest (holdsAt os Decl) p ≡ At d)
+        go i zero x y z =
+            false-true (sym k ∙ ap (λ (m : ℕ). isDecl (at os m .kind)) (z ∙ add-zero (offset l i)) ∙ rw (own-at i x) (named-decl rs (getD l i 0) (declared-at i x)))
+        go i (suc j) x y z = (offset l i, nearest-decl p i (suc j) x (omega arith) y z)
+
     -- the group field at the j-th record of the i-th declaration
     module _ (p i j : ℕ) (x : i < length l) (y : j < length (declRecords rs (getD l i 0))) (e : p ≡ offset l i + j) (k : is kind.groupField (at os p) ≡ true) where
       d : ℕ
@@ -184,16 +213,6 @@ module _ (rs : List Record) where
           let c = long i x in
           (omega arith, omega (arith, count-fits rs (getD l i 0) (declared-at i x .0)), λ q s t. members-free rs (getD l i 0) (declared-at i x .0) q s (omega arith))
 
-      nearest-decl : nearest (holdsAt os Decl) p ≡ At (offset l i)
-      unfolding d
-      nearest-decl =
-          let z = later in
-          nearest-is (holdsAt os Decl) p (offset l i) (omega arith)
-          (rw (own-at i x) (named-decl rs (getD l i 0) declared))
-          (λ q s t.
-          let n : q ≡ offset l i + (q - offset l i) = omega arith in
-          ap (λ (m : ℕ). isDecl (at os m .kind)) n ∙ member-free i (q - offset l i) x (omega arith) (omega arith))
-
       earlier : Earlier (declNamed os (at os p .second)) (nearest (holdsAt os Decl) p)
       unfolding d
       earlier =
@@ -202,7 +221,7 @@ module _ (rs : List Record) where
           let b = f .1 in
           let n : Named rs (at os p .second) (getD l (f .0) 0)
           = subst (λ (m : ℕ). Named rs (at os p .second) m) (sym (f .2)) (subst (λ (r : Record). Named rs (r .second) (g .0)) (sym field-is) (g .1)) in
-          rw (named-place (at os p .second) (f .0) (omega arith) n, nearest-decl) (omega (arith, offset-next l (f .0) i (f .1) (omega arith), long (f .0) (omega arith)))
+          rw (named-place (at os p .second) (f .0) (omega arith) n, nearest-decl p i j x later y e) (omega (arith, offset-next l (f .0) i (f .1) (omega arith), long (f .0) (omega arith)))
 
     pub groups-first : GroupsFirst (ordered rs)
     unfolding ordered l os

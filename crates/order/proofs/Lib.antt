@@ -9,3 +9,4 @@ pub mod Room
 pub mod Checks
 pub mod Stretches
 pub mod Groups
+pub mod Names

@@ -1,5 +1,6 @@
--- Demand 3: with unique names pass 2 accepts exactly if every checked reference is allowed and no followed references make a cycle, and
--- then it lists each declaration but tests once, after all that it refers to. Assumes nothing.
+-- Demand 3: with unique names pass 2 accepts exactly if every checked reference is allowed and no followed
+-- references make a cycle, and then it lists each declaration but tests once, after all that it refers to.
+-- Assumes nothing.
 use mathlib.Core.Path.{_≡_, refl, sym, _∙_, ap, subst}
 use mathlib.Core.Logic.{_⊎_, ⊎-elim}
 use mathlib.Core.Bool.{Bool, true, false, _&&_, _||_}

@@ -108,7 +108,7 @@ module _ (rs : List Record) (m o f : List ℕ) (a : Progress) where
       }
 
   module _ (m′ o′ f′ : List ℕ) (a′ : Progress) where
-    -- some state s′ lies there now, as far from the one before as the bounds say
+    -- the slices now hold a state s′ that keeps the bounds
     pub after : (x y z : ℕ) (h : Ready rs m o f a (x + z) y) (s′ : State) → Held rs (h .places₀) (h .buffer₀) s′ m′ o′ f′ a′ → Bounds (h .state) s′ z
         → length o′ ≡ length o → Ready rs m′ o′ f′ a′ x y
     after x y z h s′ e b l =
@@ -295,7 +295,7 @@ module _ (rs : List Record) (m o f : List ℕ) (a : Progress) where
   walked-more p e m₁ o₁ f₁ b v n₁ m₂ o₂ f₂ z w k o₀ f₀ s n h =
       rw (fields-one rs p e) (w k o₀ f₀ (resolve (visit k (references rs)) (fieldReference rs p) s) (omega arith) (v k o₀ f₀ s n h))
 
--- ---- what the code asks at each call of the cycle, and shows at each return
+-- ---- what each call requires and each return ensures
 
 pub follow-in : (rs : List Record) {r : Reference} {d : ℕ} → r ≡ Follow d → Within (length rs) r → d < length rs
 follow-in rs e w = rw e at w

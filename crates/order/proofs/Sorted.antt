@@ -44,9 +44,9 @@ unfolding visit
 visit-adds zero f d s e = e
 visit-adds (suc k) f d s e = enter-adds (eqb (markOf s d) 0) (eqb (markOf s d) 1) (visit k f) (visit-adds k f) (f d) d s e
 
--- ---- what a clean visit leaves
+-- ---- what visits without a fault leave
 
--- listed one by one, each after all that it leads to, with no fault of its own
+-- listed one by one, each once, after all that it follows, and with no fault of its own
 pub data Ordered (f : ℕ → List Reference) : List ℕ → Type 0 where
   none : Ordered f []
   more : {l : List ℕ} {d : ℕ} → Ordered f l → ((e : ℕ) → List·Memᴰ (Follow e) (f d) → List·Memᴰ e l)
@@ -129,7 +129,7 @@ module _ (f : ℕ → List Reference) (D : ℕ → Type 0) (n : ℕ)
         right = λ c p m. ⊎-elim (λ y. follow-wrong y) (r .right c p) (List·Memᴰ·cases-cons m);
       }
 
-  -- d, which is unvisited, is opened
+  -- d, not visited yet, is opened
   open-inv : (d : ℕ) (s : State) → d < n → markOf s d ≡ 0 → Inv s → Inv (opened d s)
   open-inv d s l z i = record {
     size = length-set (s .marks) d 1 ∙ i .size;
@@ -152,7 +152,7 @@ module _ (f : ℕ → List Reference) (D : ℕ → Type 0) (n : ℕ)
       same? : (e d : ℕ) → (e ≡ d) ⊎ (¬ (e ≡ d))
       same? e d = elim (ℕ-discrete e d) [ yes y ↦ inl y | no y ↦ inr y ]
 
-  -- d, which is open, is listed: all that it leads to is listed, and it asks no fault
+  -- d, which is being visited, is listed: all that it follows is listed, and none of its references is a fault
   list-inv : (d : ℕ) (s : State) → D d → markOf s d ≡ 1 → ((e : ℕ) → List·Memᴰ (Follow e) (f d) → markOf s e ≡ 2)
       → ((c p : ℕ) → List·Memᴰ (Wrong c p) (f d) → ⊥) → Inv s → Inv (listed d s)
   list-inv d s dd z all q i = record {
@@ -260,7 +260,7 @@ module _ {f : ℕ → List Reference} where
   right-in (more {l = l} {d = x} o a q u) d m c p g =
       ⊎-elim (λ y. right-in o d y c p g) (λ y. q c p (subst (λ z. List·Memᴰ (Wrong c p) (f z)) (List·Memᴰ·eq-of-singleton y) g)) (List·Memᴰ·append-cases l m)
 
-  -- what a listed declaration leads to is listed
+  -- what a listed declaration follows is listed
   closed-in : {l : List ℕ} → Ordered f l → (d e : ℕ) → List·Memᴰ d l → List·Memᴰ (Follow e) (f d) → List·Memᴰ e l
   closed-in none d e m g = absurd (List·Memᴰ·not-nil m)
   closed-in (more {l = l} {d = x} o a q u) d e m g =
@@ -280,7 +280,7 @@ module _ {f : ℕ → List Reference} where
       last-step {e} (one g) = a e g
       last-step (step {x = y} g w′) = reaches-in o (a y g) w′
 
--- ---- the theorem's other half
+-- ---- all visits
 
 pub unvisited-all : (n : ℕ) → unvisitedCount (replicate n 0) ≡ n
 unfolding unvisitedCount

@@ -1,4 +1,5 @@
--- The records of a declaration: its own comes first, no other declaration is among them, and each is as in the table. Assumes nothing.
+-- The records of a declaration: its own comes first, no other declaration is among them, and each is as
+-- in the table. Assumes nothing.
 use mathlib.Core.Path.{_≡_, refl, sym, _∙_, ap}
 use mathlib.Core.Bool.{Bool, true, false}
 use mathlib.Core.List.{List}

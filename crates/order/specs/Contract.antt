@@ -77,10 +77,11 @@ pub record Placed (rs : List Record) (l out : List ℕ) : Type 0 where
 -- the n listed records stand at the start of the buffer, which is unchanged behind them
 pub record Ordered (t out out′ : List ℕ) (n : ℕ) : Type 0 where
   pub count : n ≡ length (ordered (decode t))
+  pub short : n ≤ length (decode t)
   pub bytes : out′ ≡ written out 0 (allBytes t (order (decode t)))
   pub records : decode (take (40 * n) out′) ≡ ordered (decode t)
 
--- the faults of pass 2; if there are none, the listed table, else no records and the buffer as it was
+-- the faults of pass 2; if there are none, the listed table, else the buffer as it was
 pub record Checked (t buffer out buffer′ out′ : List ℕ) (r : Outcome) : Type 0 where
   pub faults : log (r .tally) buffer′ ≡ logged buffer (pass2 (decode t))
   pub accepted : Accepts (decode t) → Ordered t out out′ (r .records)

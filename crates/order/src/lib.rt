@@ -1,4 +1,5 @@
-// Pass 2: declarations are visited depth first, what they refer to is checked, and each is listed after all that it follows.
+// Pass 2: declarations are visited depth first, what they refer to is checked, and each is listed after
+// all that it follows.
 pub mod references;
 
 use references::field_reference;
@@ -21,9 +22,9 @@ ghost use Rattle.faults.specs.Notes.{noted};
 ghost use Rattle.order.specs.Contract.{memberAt, Ready, Visited, Walked, Held, allBytes, Placed, Checked};
 
 // How many places are listed, and the faults found.
-pub struct Progress {
-    pub listed: usize,
-    pub tally: Tally,
+struct Progress {
+    listed: usize,
+    tally: Tally,
 }
 
 // How many records are listed, and the faults found.

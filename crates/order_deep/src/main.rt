@@ -1,4 +1,5 @@
-// Orders the two deepest tables. Prints of each how many records are listed, how many faults are found and which name is listed first.
+// Orders the two deepest tables. Prints of each how many records are listed, how many faults are found and
+// which name is listed first.
 use rules::Record;
 ghost use mathlib.Core.Path.{_≡_};
 ghost use Prim.Native.Nat.{_<_};

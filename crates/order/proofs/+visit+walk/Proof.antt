@@ -1,4 +1,5 @@
--- The proof of the cycle of calls {visit, walk}. Each measure is the pair of the unvisited places and the fields left, as one number; the laws are in proofs/Ready.antt.
+-- The cycle of calls of `order::visit` and `order::walk` meets its contracts. Each measure is the pair of the unvisited places and
+-- the fields left, as one number; the laws are in Ready.
 -- Assumes nothing.
 use borrow.Author.Needs.{needs}
 use mathlib.Core.Path.{sym, _∙_}
@@ -92,7 +93,10 @@ visit-note-requires t c κs =
 
 -- where the arms on the parent's name meet
 visit-join : (t : ℕ) (c : visit-lts.At-match-came (visit-claims t) (visit-at t) visit.Post)
-    → Step (decode (c .before .before .before .before .before .before .before .before .before .before .before .before .before .before .before .before .before .before .args .t .now)) (c .before .own-reference .result) (c .before .before .before .before .before .before .before .before .walk .last .1 .1 .0) (c .before .before .before .before .before .before .before .before .walk .last .1 .1 .1 .0) (c .before .before .before .before .before .before .before .before .walk .last .1 .1 .1 .1 .0) (c .before .before .before .before .before .before .before .before .walk .result) (c .match .marks) (c .match .places) (c .match .buffer) (c .match .g)
+    → let w = c .before .before .before .before .before .before .before .before in
+    let s = w .before .before .before .before .before .before .before .before .before .before in
+    Step (decode (s .args .t .now)) (c .before .own-reference .result) (w .walk .last .1 .1 .0) (w .walk .last .1 .1 .1 .0) (w .walk .last .1 .1 .1 .1 .0) (w .walk .result)
+    (c .match .marks) (c .match .places) (c .match .buffer) (c .match .g)
 visit-join t c =
     ⊎-elim
     (λ w. step-follow (w .13) (w .14) (w .15) (w .16) (w .1 .given .1) (w .6 .ensures) (w .6 .kept .1 .1 .0) (w .6 .kept .1 .1 .1 .0) (w .6 .kept .1 .1 .1 .1 .0))
@@ -177,7 +181,9 @@ walk-note-requires t c κs =
 
 -- where the arms on the field meet
 walk-join : (t : ℕ) (c : walk-lts.At-match-came (walk-claims t) (walk-at t) walk.Post)
-    → Step (decode (c .before .before .before .before .before .before .before .before .args .t .now)) (c .before .field-reference .result) (c .before .before .before .before .before .before .before .before .args .marks .now) (c .before .before .before .before .before .before .before .before .args .places .now) (c .before .before .before .before .before .before .before .before .args .buffer .now) (c .before .before .before .before .before .before .before .before .args .a) (c .match .marks) (c .match .places) (c .match .buffer) (c .match .b)
+    → let s = c .before .before .before .before .before .before .before .before in
+    Step (decode (s .args .t .now)) (c .before .field-reference .result) (s .args .marks .now) (s .args .places .now) (s .args .buffer .now) (s .args .a)
+    (c .match .marks) (c .match .places) (c .match .buffer) (c .match .b)
 walk-join t c =
     ⊎-elim
     (λ w. step-follow (w .13) (w .14) (w .15) (w .16) (w .1 .given .1) (w .6 .ensures) (w .6 .kept .1 .1 .0) (w .6 .kept .1 .1 .1 .0) (w .6 .kept .1 .1 .1 .1 .0))
@@ -236,5 +242,12 @@ walk-returns-2 t c = walked-end _ _ _ _ _ _ (sym (c .before .member-at .ensures)
 pub +visit+walk-spec : {M : Type 1} → statement M
 +visit+walk-spec =
     close μ-visit μ-walk
-    (λ t. visit-lts.spec (visit-claims t) (visit-at t) visit.Post (visit-slice-read-m t) (visit-slice-write-marks t) (visit-add-walk t) (visit-walk-requires t) (λ c κs. tt) (λ c. search needs) (visit-visit-requires t) (λ c. search needs) (visit-note-requires t) (λ c. search needs) (visit-list-requires t) (visit-note-requires-2 t) (visit-same-length t) (visit-same-length-2 t) (visit-same-length-3 t) (visit-returns t) (λ c. search needs) (visit-returns-2 t) (visit-returns-3 t))
-    (λ t. walk-lts.spec (walk-claims t) (walk-at t) walk.Post (λ c κs. tt) (λ c κs. tt) (λ c. search needs) (walk-visit-requires t) (λ c. search needs) (walk-note-requires t) (λ c. search needs) (walk-add-walk t) (walk-walk-requires t) (walk-same-length t) (walk-same-length-2 t) (walk-same-length-3 t) (walk-returns t) (walk-returns-2 t))
+    (λ t. visit-lts.spec (visit-claims t) (visit-at t) visit.Post (visit-slice-read-m t) (visit-slice-write-marks t)
+    (visit-add-walk t) (visit-walk-requires t) (λ c κs. tt) (λ c. search needs) (visit-visit-requires t) (λ c. search needs)
+    (visit-note-requires t) (λ c. search needs) (visit-list-requires t) (visit-note-requires-2 t) (visit-same-length t)
+    (visit-same-length-2 t) (visit-same-length-3 t) (visit-returns t) (λ c. search needs) (visit-returns-2 t)
+    (visit-returns-3 t))
+    (λ t. walk-lts.spec (walk-claims t) (walk-at t) walk.Post (λ c κs. tt) (λ c κs. tt) (λ c. search needs)
+    (walk-visit-requires t) (λ c. search needs) (walk-note-requires t) (λ c. search needs) (walk-add-walk t)
+    (walk-walk-requires t) (walk-same-length t) (walk-same-length-2 t) (walk-same-length-3 t) (walk-returns t)
+    (walk-returns-2 t))
