@@ -1,5 +1,5 @@
 // Pass 3, `check_field_identifiers`: code 11 at a field whose name an earlier field of the declaration has.
-use enums::repeats::again;
+use repeats::again;
 use faults::Finding;
 use rules::Target;
 ghost use mathlib.Core.Path.{_≡_};

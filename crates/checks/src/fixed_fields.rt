@@ -1,6 +1,6 @@
 // Pass 6, `check_fixed_fields`: fixed values wider than their field, and fixed tags that no enum has.
 use crate::members::has_member;
-use enums::repeats::when;
+use repeats::when;
 use faults::Finding;
 use rules::Found;
 use rules::Target;

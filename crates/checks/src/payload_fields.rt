@@ -1,6 +1,6 @@
 // Pass 7, `check_payload_fields`: a second Payload or Body, and a parent that has none though a child has fields.
 use crate::members::has_member;
-use enums::repeats::when;
+use repeats::when;
 use faults::Finding;
 use rules::Found;
 use rules::Target;

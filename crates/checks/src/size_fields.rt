@@ -1,5 +1,5 @@
 // Pass 5, `check_size_fields`: repeated Size, Count and ElementSize fields, and those that name no array.
-use enums::repeats::again;
+use repeats::again;
 use faults::Finding;
 use rules::Found;
 use rules::Target;

@@ -4,10 +4,12 @@ use mathlib.Core.Path.{_≡_, refl, sym, ap, _∙_}
 use mathlib.Core.List.{List, [], _∷_, _++_, append-nil}
 use mathlib.Core.Bool.{Bool, true, false, _||_}
 use native.Mathlib.Omega.{arith}
-use native.Mathlib.Nat.{le-trans}
+use native.Mathlib.Numerals.{add-one}
+use native.Mathlib.Nat.{le-trans, add-zero}
 use borrow.Author.Tests.{eq-eqb, ne-eqb}
 use lib.Dec.{eqb, ltb, leb}
-use lib.ListN.{length, getD, take, length-append}
+use lib.ListN.{length, getD, take, set, length-append, List·getD-append}
+use lib.Seq.{take-suc-set, getD-append-add}
 use Rattle.rules.specs.Choice.{if_then_else_, when}
 use Rattle.rules.specs.Table.{at}
 use Rattle.rules.specs.Places.{first, each, holdsAt, upTo, memberCount}
@@ -23,6 +25,7 @@ use Rattle.rules.specs.declared.Found.the-variants.{At, Nothing}
 use Rattle.rules.specs.declared.Target.{Target}
 use Rattle.rules.specs.declared.Target.the-variants.{Decl, TagOrDecl, ValueOrDecl, DefaultOrDecl}
 use Rattle.table.proofs.Laws.{each-more, each-few, first-in}
+use Rattle.enums.specs.Held.{heldAmong}
 use Rattle.enums.proofs.Sorts.{sorted-more, length-sorted}
 
 if-few : {A : Type 0} (b : Bool) (xs ys : List A) (k : ℕ) → length xs ≤ k → length ys ≤ k → length (if b then xs else ys) ≤ k
@@ -68,13 +71,13 @@ default-few : (rs : List Record) (p : ℕ) → length (defaultFaults rs p) ≤ 2
 unfolding defaultFaults
 default-few rs p = simp length-append (omega (arith, again-few 12 rs (TagOrDecl (at rs p .name)) p, again-few 44 rs DefaultOrDecl p))
 
-pub held-few-at : (rs : List Record) (d p i : ℕ) → length (heldAt rs p (d + 1 + i)) ≤ 1
+pub held-few-at : (rs : List Record) (p q : ℕ) → length (heldAt rs p q) ≤ 1
 unfolding heldAt
-held-few-at rs d p i = when-few _ _
+held-few-at rs p q = when-few _ _
 
 held-few : (rs : List Record) (d n p : ℕ) → length (held rs d n p) ≤ n
 unfolding held
-held-few rs d n p = omega (arith, each-few (λ i. heldAt rs p (d + 1 + i)) 1 n (held-few-at rs d p))
+held-few rs d n p = omega (arith, each-few (λ i. heldAt rs p (d + 1 + i)) 1 n (λ i. held-few-at rs p (d + 1 + i)))
 
 pub tag-few : (rs : List Record) (d n p : ℕ) → n ≤ 1600 → length (tagFaults rs d n p) ≤ 1603
 unfolding tagFaults innerFaults
@@ -156,3 +159,59 @@ module _ (rs : List Record) (p : ℕ) (ys : List ℕ) where
 pub ranges-none : (rs : List Record) (d : ℕ) → [] ≡ sorted (beforeAt rs) (ranges rs d 0)
 unfolding ranges each sorted inserted
 ranges-none rs d = refl
+
+-- a place that is kept, or is not that of a range
+module _ (rs : List Record) (p m : ℕ) (s : List ℕ) where
+  pub kept-one : m < length s → at rs p .kind ≡ 41 → take (m + 1) (set s m p) ≡ take m s ++ rangeAt rs p
+  unfolding when
+  kept-one h e = rw (eq-eqb _ _ e, add-one, take-suc-set s m p h)
+
+  pub kept-none : (at rs p .kind ≡ 41 → ⊥) → take m s ≡ take m s ++ rangeAt rs p
+  unfolding when
+  kept-none e = rw (ne-eqb _ _ e, append-nil)
+
+pub ranges-next : (rs : List Record) (d i : ℕ) → ranges rs d (i + 1) ≡ ranges rs d i ++ rangeAt rs (d + 1 + i)
+unfolding ranges
+ranges-next rs d i = each-more _ i
+
+pub ranges-first : (rs : List Record) (d : ℕ) → [] ≡ ranges rs d 0
+unfolding ranges each
+ranges-first rs d = refl
+
+-- the same listed at each place
+each-same : (f g : ℕ → List Fault) (n : ℕ) → ((i : ℕ) → i < n → f i ≡ g i) → each f n ≡ each g n
+unfolding each
+each-same f g zero h = refl
+each-same f g (suc n) h = rw (h n (omega arith), each-same f g n (λ i k. h i (omega arith)))
+
+-- one place more, or none
+among-more : (rs : List Record) (p : ℕ) (qs : List ℕ) (q : ℕ) → heldAmong rs p (qs ++ q ∷ []) ≡ heldAmong rs p qs ++ heldAt rs p q
+unfolding heldAmong
+among-more rs p qs q =
+    ap (each (λ j. heldAt rs p (getD (qs ++ q ∷ []) j 0))) (length-append qs (q ∷ []))
+    ∙ each-more _ (length qs)
+    ∙ rw (each-same (λ j. heldAt rs p (getD (qs ++ q ∷ []) j 0)) (λ j. heldAt rs p (getD qs j 0)) (length qs) (λ i h. rw (List·getD-append qs (q ∷ []) 0 i h)), last)
+  where
+    last : getD (qs ++ q ∷ []) (length qs) 0 ≡ q
+    last = ap (λ (n : ℕ). getD (qs ++ q ∷ []) n 0) (sym (add-zero (length qs))) ∙ getD-append-add qs (q ∷ []) 0 0
+
+not-held : (rs : List Record) (p q : ℕ) → eqb (at rs q .kind) 41 ≡ false → heldAt rs p q ≡ []
+unfolding heldAt when
+not-held rs p q e = rw e
+
+among-at : (rs : List Record) (p q : ℕ) (qs : List ℕ) (b : Bool) → eqb (at rs q .kind) 41 ≡ b → heldAmong rs p (qs ++ rangeAt rs q) ≡ heldAmong rs p qs ++ heldAt rs p q
+unfolding when
+among-at rs p q qs true e = rw e (among-more rs p qs q)
+among-at rs p q qs false e = rw (e, not-held rs p q e) (simp append-nil)
+
+among-none : (rs : List Record) (p : ℕ) → heldAmong rs p [] ≡ []
+unfolding heldAmong each
+among-none rs p = refl
+
+-- places that are no range hold nothing
+pub held-among : (rs : List Record) (d n p : ℕ) → heldAmong rs p (ranges rs d n) ≡ held rs d n p
+unfolding held ranges each
+held-among rs d zero p = among-none rs p
+held-among rs d (suc n) p =
+    among-at rs p (d + 1 + n) (each (λ i. rangeAt rs (d + 1 + i)) n) (eqb (at rs (d + 1 + n) .kind) 41) refl
+    ∙ ap (λ (xs : List Fault). xs ++ heldAt rs p (d + 1 + n)) (held-among rs d n p)

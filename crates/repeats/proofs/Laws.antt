@@ -13,6 +13,8 @@ use lib.Seq.{getD-set-same, getD-set-other}
 use Rattle.rules.specs.Kinds.{isDecl}
 use Rattle.rules.specs.Table.{at}
 use Rattle.rules.specs.Places.{nearest, holds, holdsAt, foundInside}
+use Rattle.rules.specs.Faults.{repeated}
+use Rattle.rules.specs.EnumDeclarations.{again}
 use Rattle.rules.specs.declared.Record.{Record}
 use Rattle.rules.specs.declared.Found.{Found}
 use Rattle.rules.specs.declared.Found.the-variants.{At, Nothing}
@@ -103,3 +105,17 @@ one-everywhere n p = go (leb (suc p) n) refl
 
 pub marked-ones : (rs : List Record) (what : Key) (n : ℕ) → Marked rs what (replicate n 1)
 marked-ones rs what n = record { clear = λ p e. absurd (omega (arith, one-everywhere n p, e)) }
+
+-- where nothing is found in the declaration there is no fault
+none-found : (code : ℕ) (rs : List Record) (p : ℕ) (x : Found) → foundInside rs x ≡ false → [] ≡ repeated code rs p x
+unfolding repeated foundInside
+none-found code rs p Nothing e = refl
+none-found code rs p (At q) e = go (isDecl (at rs q .kind)) refl
+  where
+    go : (b : Bool) → isDecl (at rs q .kind) ≡ b → [] ≡ repeated code rs p (At q)
+    go true d = rw d
+    go false d = absurd (never (sym (rw (foundInside, d) at e)))
+
+pub not-again : (code : ℕ) (rs : List Record) (what : Key) (n p : ℕ) → earlier rs what n p ≡ false → [] ≡ again code rs (targetOf what n) p
+unfolding again earlier
+not-again code rs what n p e = none-found code rs p _ e

@@ -1,9 +1,17 @@
-// Marks at the records that might repeat an earlier one of their declaration, so that the others need no search.
+// Records that repeat an earlier one of their declaration. Marks say where one might, so that the others need no search.
+use faults::Finding;
+use rules::Fault;
+use rules::Found;
+use rules::Target;
 ghost use mathlib.Core.Path.{_≡_};
 ghost use Prim.Native.Nat.{_+_, _<_, _≤_};
 ghost use lib.ListN.{length, getD};
+ghost use Rattle.rules.specs.Choice.{when};
 ghost use Rattle.rules.specs.Table.{decode, at};
-ghost use Rattle.repeats.specs.Marks.{selects, keyOf, Marked, Stamped};
+ghost use Rattle.rules.specs.Faults.{repeated};
+ghost use Rattle.rules.specs.EnumDeclarations.{again};
+ghost use Rattle.faults.specs.Notes.{findings};
+ghost use Rattle.repeats.specs.Marks.{selects, keyOf, targetOf, Marked, Stamped};
 
 // What each record of a declaration has of its own.
 pub enum Key {
@@ -107,4 +115,61 @@ pub fn mark(t: &[u8], what: Key, marks: &mut [u8])
     }
     let mut seen = [0u16; 4096];
     mark_places(t, what, n, &mut seen, marks);
+}
+
+// A fault where a test holds.
+pub fn when(b: bool, f: Fault) -> Finding
+    ensures { λ r. ⌜ findings r ≡ when b f ⌝ }
+{
+    if b {
+        return Finding::One(f);
+    }
+    Finding::Fine
+}
+
+// A fault at p that points at the earlier record that a search found, if it is no declaration.
+fn repeated(code: u16, t: &[u8], p: usize, found: Found) -> Finding
+    ensures { λ r. ⌜ findings r ≡ repeated code (decode (now (t .entry))) p found ⌝ }
+{
+    match found {
+        Found::At(q) => {
+            let s = table::at(t, q);
+            if table::kinds::is_decl(s.kind) {
+                return Finding::Fine;
+            }
+            Finding::One(faults::double(code, table::at(t, p), s))
+        }
+        Found::Nothing => Finding::Fine,
+    }
+}
+
+// A fault at p that points at the nearest earlier record of its declaration that is what x looks for.
+pub fn again(code: u16, t: &[u8], x: Target, p: usize) -> Finding
+    ensures { λ r. ⌜ findings r ≡ again code (decode (now (t .entry))) x p ⌝ }
+{
+    repeated(code, t, p, table::search::nearest(t, x, p))
+}
+
+// What a search for the key of the record at p looks for.
+fn target(what: Key, t: &[u8], p: usize) -> Target
+    ensures { λ r. ⌜ r ≡ targetOf what (keyOf what (at (decode (now (t .entry))) p)) ⌝ }
+{
+    match what {
+        Key::FieldNames => Target::NameOrDecl(table::name(t, p)),
+        Key::TagNames => Target::TagOrDecl(table::name(t, p)),
+        Key::TagValues => Target::ValueOrDecl(table::at(t, p).one),
+        Key::Sizes => Target::SizeOrDecl(table::second(t, p)),
+        Key::ElementSizes => Target::ElementSizeOrDecl(table::second(t, p)),
+    }
+}
+
+// The same for the key of the record at p, without a search where the mark is 0.
+pub fn again_marked(code: u16, t: &[u8], what: Key, p: usize, marks: &[u8]) -> Finding
+    requires { ⌜ Marked (decode (now t)) what (now marks) ⌝ }
+    ensures { λ r. ⌜ findings r ≡ again code (decode (now (t .entry))) (targetOf what (keyOf what (at (decode (now (t .entry))) p))) p ⌝ }
+{
+    if mark_at(marks, p) == 0 {
+        return Finding::Fine;
+    }
+    again(code, t, target(what, t, p), p)
 }

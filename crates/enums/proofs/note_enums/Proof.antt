@@ -16,11 +16,11 @@ use Rattle.enums.proofs.note_enums.Statement.{statement}
 use Rattle.enums.proofs.note_enums.Tie as tie
 
 abbrev Inv-loop : tie.InvT-loop
-Inv-loop t s₀ buffer₀ n tally₀ d₀ s buffer tally d =
+Inv-loop t names values s₀ buffer₀ n tally₀ d₀ s buffer tally d =
     (log tally buffer ≡ notedAll (log none buffer₀) (each (pass4At (decode t)) d)) × (d ≤ n) × (n ≡ length (decode t)) × (length buffer ≡ length buffer₀) × (length s ≡ length s₀)
 
 abbrev μ-loop : tie.MeasureT-loop
-μ-loop t s₀ buffer₀ n tally₀ d₀ s buffer tally d = n - d
+μ-loop t names values s₀ buffer₀ n tally₀ d₀ s buffer tally d = n - d
 
 loop-holds : tie.Need-loop-holds Inv-loop μ-loop
 loop-holds c =
@@ -30,8 +30,8 @@ loop-holds c =
 note-enum-requires : tie.Need-note-enum-requires Inv-loop μ-loop
 note-enum-requires c κs =
     let l = c .before .before .before in
-    let s = l .before .before .before .before .before .before in
-    (search needs, search needs, search needs, omega (arith, each-total _ 3000000 (l .loop .d) none _ (place-few (decode (now (s .args .t))) (search needs)) (l .loop .inv .0)))
+    let s = l .before .before .before .before .before .before .before .before in
+    (search needs, search needs, search needs, omega (arith, each-total _ 3000000 (l .loop .d) none _ (place-few (decode (now (s .args .t))) (search needs)) (l .loop .inv .0)), search needs, search needs)
 
 loop-again : tie.Need-loop-again Inv-loop μ-loop
 loop-again c =

@@ -16,11 +16,11 @@ use Rattle.enums.proofs.note_tags.Statement.{statement}
 use Rattle.enums.proofs.note_tags.Tie as tie
 
 abbrev Inv-loop : tie.InvT-loop
-Inv-loop t d n buffer₀ kept₀ i₀ buffer kept i =
+Inv-loop t names values s m d n buffer₀ kept₀ i₀ buffer kept i =
     (log kept buffer ≡ notedAll (log kept₀ buffer₀) (each (λ j. tagFaults (decode t) d n (d + 1 + j)) i)) × (i ≤ n) × (length buffer ≡ length buffer₀)
 
 abbrev μ-loop : tie.MeasureT-loop
-μ-loop t d n buffer₀ kept₀ i₀ buffer kept i = n - i
+μ-loop t names values s m d n buffer₀ kept₀ i₀ buffer kept i = n - i
 
 loop-holds : tie.Need-loop-holds Inv-loop μ-loop
 loop-holds c = (noted-start _ _, search needs, refl)
@@ -28,8 +28,8 @@ loop-holds c = (noted-start _ _, search needs, refl)
 note-tag-requires : tie.Need-note-tag-requires Inv-loop μ-loop
 note-tag-requires c κs =
     let l = c .before .before in
-    let s = l .before .before .before in
-    (search needs, omega (arith, each-total _ 1603 (l .loop .i) _ _ (λ i. tag-few (decode (now (s .args .t))) (s .args .d) (s .args .n) (s .args .d + 1 + i) (search needs)) (l .loop .inv .0)))
+    let s = l .before .before .before .before .before .before in
+    (search needs, search needs, search needs, omega (arith, each-total _ 1603 (l .loop .i) _ _ (λ i. tag-few (decode (now (s .args .t))) (s .args .d) (s .args .n) (s .args .d + 1 + i) (search needs)) (l .loop .inv .0)), search needs, search needs, search needs)
 
 loop-again : tie.Need-loop-again Inv-loop μ-loop
 loop-again c =

@@ -11,9 +11,8 @@ returns c =
     let n = c .before .before in
     let a = n .before .before in
     let g = a .before in
-    let t = g .before in
-    rw (← t .at .ensures, ← g .again .ensures, ← a .again2 .ensures) (rw append-nil at (n .note-three .ensures))
+    rw (← g .again-marked .ensures, ← a .again .ensures) (rw append-nil at (n .note-three .ensures))
 
 pub note-default-spec : {M : Type 1} → statement M
 note-default-spec =
-    tie.close (tie.spec (λ c κs. search needs) (λ c κs. search needs) (λ c κs. search needs) (λ c κs. search needs) (λ c. search needs) returns)
+    tie.close (tie.spec (λ c κs. search needs) (λ c κs. search needs) (λ c κs. search needs) (λ c. search needs) returns)

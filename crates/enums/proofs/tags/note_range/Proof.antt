@@ -13,7 +13,7 @@ returns c =
     let s = h .before in
     let a = s .before in
     let t = a .before in
-    rw (← t .at .ensures, ← a .again .ensures, ← s .single .ensures, ← h .when .ensures, ← w .when2 .ensures) (n .note-three .ensures)
+    rw (← a .again-marked .ensures, ← t .at .ensures, ← s .single .ensures, ← h .when .ensures, ← w .when2 .ensures) (n .note-three .ensures)
 
 pub note-range-spec : {M : Type 1} → statement M
 note-range-spec =

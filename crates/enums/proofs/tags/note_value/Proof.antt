@@ -13,7 +13,7 @@ returns c =
     let a = s .before in
     let g = a .before in
     let t = g .before in
-    rw (← t .at .ensures, ← g .again .ensures, ← a .again2 .ensures, ← s .single .ensures, ← w .when .ensures) (n .note-three .ensures)
+    rw (← g .again-marked .ensures, ← a .again-marked2 .ensures, ← t .at .ensures, ← s .single .ensures, ← w .when .ensures) (n .note-three .ensures)
 
 pub note-value-spec : {M : Type 1} → statement M
 note-value-spec =

@@ -1,9 +1,9 @@
--- `enums::repeats::repeated` meets its contract: each way out is a case of the definition. Assumes nothing.
+-- `repeats::repeated` meets its contract: each way out is a case of the definition. Assumes nothing.
 use borrow.Author.Needs.{needs}
 use mathlib.Core.Path.{sym, _∙_}
 use Rattle.rules.specs.Faults.{repeated}
-use Rattle.enums.proofs.repeats.repeated.Statement.{statement}
-use Rattle.enums.proofs.repeats.repeated.Tie as tie
+use Rattle.repeats.proofs.repeated.Statement.{statement}
+use Rattle.repeats.proofs.repeated.Tie as tie
 
 returns : tie.Need-returns
 unfolding repeated

@@ -1,7 +1,7 @@
--- `enums::repeats::when` meets its contract. Assumes nothing.
+-- `repeats::when` meets its contract. Assumes nothing.
 use Rattle.rules.specs.Choice.{when}
-use Rattle.enums.proofs.repeats.when.Statement.{statement}
-use Rattle.enums.proofs.repeats.when.Tie as tie
+use Rattle.repeats.proofs.when.Statement.{statement}
+use Rattle.repeats.proofs.when.Tie as tie
 
 returns : tie.Need-returns
 unfolding when

@@ -1,8 +1,8 @@
--- `enums::repeats::again` meets its contract. Assumes nothing.
+-- `repeats::again` meets its contract. Assumes nothing.
 use borrow.Author.Needs.{needs}
 use Rattle.rules.specs.EnumDeclarations.{again}
-use Rattle.enums.proofs.repeats.again.Statement.{statement}
-use Rattle.enums.proofs.repeats.again.Tie as tie
+use Rattle.repeats.proofs.again.Statement.{statement}
+use Rattle.repeats.proofs.again.Tie as tie
 
 returns : tie.Need-returns
 unfolding again
