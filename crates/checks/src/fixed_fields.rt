@@ -1,7 +1,7 @@
 // Pass 6, `check_fixed_fields`: fixed values wider than their field, and fixed tags that no enum has.
 use crate::members::has_member;
-use repeats::when;
 use faults::Finding;
+use repeats::when;
 use rules::Found;
 use rules::Target;
 ghost use mathlib.Core.Path.{_≡_};

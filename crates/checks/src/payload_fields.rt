@@ -1,7 +1,7 @@
 // Pass 7, `check_payload_fields`: a second Payload or Body, and a parent that has none though a child has fields.
 use crate::members::has_member;
-use repeats::when;
 use faults::Finding;
+use repeats::when;
 use rules::Found;
 use rules::Target;
 ghost use mathlib.Core.Path.{_≡_};

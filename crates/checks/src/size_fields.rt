@@ -1,14 +1,17 @@
 // Pass 5, `check_size_fields`: repeated Size, Count and ElementSize fields, and those that name no array.
-use repeats::again;
 use faults::Finding;
+use repeats::Key;
+use repeats::again_marked;
 use rules::Found;
 use rules::Target;
 use table::kinds::is_size;
 ghost use mathlib.Core.Path.{_≡_};
 ghost use Prim.Native.Nat.{_+_, _<_, _≤_};
 ghost use Rattle.rules.specs.Table.{decode};
-ghost use Rattle.rules.specs.SizeFields.{sizeCode, sameMap, sizeAgain, matching, isSized, misnamed, sizeTarget};
+ghost use Rattle.rules.specs.SizeFields.{sizeCode, sizeAgain, matching, isSized, misnamed, sizeTarget};
 ghost use Rattle.faults.specs.Notes.{findings};
+ghost use Rattle.repeats.specs.Marks.{Marked};
+ghost use Rattle.repeats.specs.declared.Key.the-variants.{Sizes, ElementSizes};
 
 // The code of a repeat, before those for missing and for no array.
 fn size_code(k: u8) -> u16
@@ -18,25 +21,20 @@ fn size_code(k: u8) -> u16
     23 + 3 * ((k - 22) as u16)
 }
 
-// Size and Count share one map, and ElementSize has its own.
-fn same_map(k: u8, n: u16) -> Target
-    ensures { λ r. ⌜ r ≡ sameMap k n ⌝ }
-{
-    if k == 24 {
-        return Target::ElementSizeOrDecl(n);
-    }
-    Target::SizeOrDecl(n)
-}
-
-// First a repeat: 23, 26, 29.
-pub(crate) fn size_again(t: &[u8], p: usize) -> Finding
+// First a repeat: 23, 26, 29. Size and Count share one map, and ElementSize has its own.
+pub(crate) fn size_again(t: &[u8], sizes: &[u8], elements: &[u8], p: usize) -> Finding
+    requires { ⌜ Marked (decode (now t)) Sizes (now sizes) × Marked (decode (now t)) ElementSizes (now elements) ⌝ }
     ensures { λ r. ⌜ findings r ≡ sizeAgain (decode (now (t .entry))) p ⌝ }
 {
-    let r = table::at(t, p);
-    if !is_size(r.kind) {
+    let k = table::kind(t, p);
+    if !is_size(k) {
         return Finding::Fine;
     }
-    again(size_code(r.kind), t, same_map(r.kind, r.second), p)
+    let code = size_code(k);
+    if k == 24 {
+        return again_marked(code, t, Key::ElementSizes, p, elements);
+    }
+    again_marked(code, t, Key::Sizes, p, sizes)
 }
 
 // For Size a Payload also matches 1 and a Body 2.

@@ -44,7 +44,7 @@ returns-6 c =
 returns-7 : tie.Need-returns-7
 unfolding passAt
 returns-7 c =
-    let s = c .before .before in
+    let s = c .before .before .before in
     rw (ne-eqb _ _ (c .match .rest .0 .0 .0 .0 .0 .1), ne-eqb _ _ (c .match .rest .0 .0 .0 .0 .1), ne-eqb _ _ (s .pre .0), ne-eqb _ _ (s .pre .1), ne-eqb _ _ (c .match .rest .0 .0 .0 .1), ne-eqb _ _ (c .match .rest .0 .0 .1), ne-eqb _ _ (c .match .rest .0 .1), ne-eqb _ _ (c .match .rest .1))
 
 pub finding-spec : {M : Type 1} → statement M

@@ -11,16 +11,16 @@ returns : tie.Need-returns
 unfolding pass3At
 returns c =
     let i = c .before in
-    let a = i .before in
-    rw (← a .at .ensures, sym (i .is-named-field .ensures) ∙ not-true _ (c .if1 .taken))
+    let k = i .before in
+    rw (← k .kind .ensures, sym (i .is-named-field .ensures) ∙ not-true _ (c .if1 .taken))
 
 returns-2 : tie.Need-returns-2
 unfolding again pass3At
 returns-2 c =
     let i = c .before in
     let s = i .before in
-    let a = s .before in
-    rw (← a .at .ensures, sym (s .is-named-field .ensures) ∙ not-false _ (i .if1 .left)) (c .again .ensures)
+    let k = s .before in
+    rw (← k .kind .ensures, sym (s .is-named-field .ensures) ∙ not-false _ (i .if1 .left)) (c .again-marked .ensures)
 
 pub at-place-spec : {M : Type 1} → statement M
 at-place-spec =
