@@ -151,7 +151,7 @@ pub fn again(code: u16, t: &[u8], x: Target, p: usize) -> Finding
 }
 
 // What a search for the key of the record at p looks for.
-fn target(what: Key, t: &[u8], p: usize) -> Target
+fn target_of(what: Key, t: &[u8], p: usize) -> Target
     ensures { λ r. ⌜ r ≡ targetOf what (keyOf what (at (decode (now (t .entry))) p)) ⌝ }
 {
     match what {
@@ -171,5 +171,5 @@ pub fn again_marked(code: u16, t: &[u8], what: Key, p: usize, marks: &[u8]) -> F
     if mark_at(marks, p) == 0 {
         return Finding::Fine;
     }
-    again(code, t, target(what, t, p), p)
+    again(code, t, target_of(what, t, p), p)
 }

@@ -14,7 +14,7 @@ returns c =
 returns-2 : tie.Need-returns-2
 returns-2 c =
     let x = c .before in
-    rw (← x .target .ensures) (c .again .ensures)
+    rw (← x .target-of .ensures) (c .again .ensures)
 
 pub again-marked-spec : {M : Type 1} → statement M
 again-marked-spec =
