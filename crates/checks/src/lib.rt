@@ -56,7 +56,11 @@ fn note_at(
     if pass != 5 {
         return faults::note_found(tally, buffer, finding(pass, t, names, p));
     }
-    let once = faults::note_found(tally, buffer, size_fields::size_again(t, sizes, elements, p));
+    let once = faults::note_found(
+        tally,
+        buffer,
+        size_fields::size_again(t, sizes, elements, p),
+    );
     faults::note_found(once, buffer, size_fields::size_target(t, p))
 }
 

@@ -77,13 +77,7 @@ fn note_enum(
 }
 
 // All enums. s is room for the places of an enum's ranges.
-fn note_enums(
-    t: &[u8],
-    names: &[u8],
-    values: &[u8],
-    s: &mut [u16],
-    buffer: &mut [u8],
-) -> Tally
+fn note_enums(t: &[u8], names: &[u8], values: &[u8], s: &mut [u16], buffer: &mut [u8]) -> Tally
     requires { ⌜ (length (decode (now t)) ≤ 1600) × (1600 ≤ length (now s)) × Marked (decode (now t)) TagNames (now names) × Marked (decode (now t)) TagValues (now values) ⌝ }
     ensures { λ r. ⌜ log r (now (buffer .exit)) ≡ logged (now (buffer .entry)) (pass4 (decode (now (t .entry)))) ⌝ }
 {

@@ -123,14 +123,7 @@ fn note_held(t: &[u8], s: &[u16], m: usize, p: usize, tally: Tally, buffer: &mut
 }
 
 // A range: 12, 40, 40.
-fn note_range(
-    t: &[u8],
-    names: &[u8],
-    most: u64,
-    p: usize,
-    tally: Tally,
-    buffer: &mut [u8],
-) -> Tally
+fn note_range(t: &[u8], names: &[u8], most: u64, p: usize, tally: Tally, buffer: &mut [u8]) -> Tally
     requires { ⌜ (tally .total + 4 < 2 ^ 64) × Marked (decode (now t)) TagNames (now names) ⌝ }
     ensures { λ r. ⌜ log r (now (buffer .exit)) ≡ notedAll (log tally (now (buffer .entry))) (rangeFaults (decode (now (t .entry))) most p) ⌝ }
 {

@@ -1,6 +1,6 @@
 -- Laws of the marks: what a place adds to the keys that were seen. Assumes nothing.
-use Prim.Native.Nat.{ℕ, zero, suc, _+_, _%_, _<_, _≤_}
-use mathlib.Core.Path.{_≡_, refl, sym, ap, _∙_}
+use Prim.Native.Nat.{ℕ, zero, suc, _+_, _%_, _<_}
+use mathlib.Core.Path.{_≡_, refl, sym, _∙_}
 use mathlib.Core.List.{List, [], _∷_}
 use mathlib.Core.Bool.{Bool, true, false, _&&_, _||_}
 use native.Mathlib.Omega.{arith}
@@ -12,7 +12,7 @@ use lib.ListN.{length, getD, set, replicate, length-replicate, getD-replicate, L
 use lib.Seq.{getD-set-same, getD-set-other}
 use Rattle.rules.specs.Kinds.{isDecl}
 use Rattle.rules.specs.Table.{at}
-use Rattle.rules.specs.Places.{nearest, holds, holdsAt, foundInside}
+use Rattle.rules.specs.Places.{nearest, holds, foundInside}
 use Rattle.rules.specs.Faults.{repeated}
 use Rattle.rules.specs.EnumDeclarations.{again}
 use Rattle.rules.specs.declared.Record.{Record}
@@ -58,15 +58,15 @@ module _ (rs : List Record) (what : Key) (p : ℕ) (seen : List ℕ) (stamp : �
       record { known = λ n h. s .known n (sym (miss rs what p n (holds-as what n (at rs p) ∙ rw (d, e))) ∙ h) }
 
   pub stamped-one : (seen′ : List ℕ) → Stamped rs what seen stamp p → isDecl (at rs p .kind) ≡ false → selects what (at rs p .kind) ≡ true
-      → getD seen′ (keyOf what (at rs p) % 4096) 0 ≡ stamp → ((j : ℕ) → getD seen j 0 ≡ stamp → getD seen′ j 0 ≡ stamp) → Stamped rs what seen′ stamp (p + 1)
+      → getD seen′ (keyOf what (at rs p) % 4093) 0 ≡ stamp → ((j : ℕ) → getD seen j 0 ≡ stamp → getD seen′ j 0 ≡ stamp) → Stamped rs what seen′ stamp (p + 1)
   stamped-one seen′ s d e here kept = record { known = λ n h. go n h (eqb (keyOf what (at rs p)) n) refl }
     where
-      go : (n : ℕ) → earlier rs what n (p + 1) ≡ true → (b : Bool) → eqb (keyOf what (at rs p)) n ≡ b → getD seen′ (n % 4096) 0 ≡ stamp
+      go : (n : ℕ) → earlier rs what n (p + 1) ≡ true → (b : Bool) → eqb (keyOf what (at rs p)) n ≡ b → getD seen′ (n % 4093) 0 ≡ stamp
       go n h true k = rw (← eqb-true (keyOf what (at rs p)) n k) here
-      go n h false k = kept (n % 4096) (s .known n (sym (miss rs what p n (holds-as what n (at rs p) ∙ rw (d, e, k))) ∙ h))
+      go n h false k = kept (n % 4093) (s .known n (sym (miss rs what p n (holds-as what n (at rs p) ∙ rw (d, e, k))) ∙ h))
 
   -- a key that left no stamp is new
-  pub new-key : Stamped rs what seen stamp p → (getD seen (keyOf what (at rs p) % 4096) 0 ≡ stamp → ⊥) → earlier rs what (keyOf what (at rs p)) p ≡ false
+  pub new-key : Stamped rs what seen stamp p → (getD seen (keyOf what (at rs p) % 4093) 0 ≡ stamp → ⊥) → earlier rs what (keyOf what (at rs p)) p ≡ false
   new-key s h = go (earlier rs what (keyOf what (at rs p)) p) refl
     where
       go : (b : Bool) → earlier rs what (keyOf what (at rs p)) p ≡ b → earlier rs what (keyOf what (at rs p)) p ≡ false

@@ -48,4 +48,4 @@ pub record Marked (rs : List Record) (what : Key) (marks : List ℕ) : Type 0 wh
 
 -- each key that an earlier record has left its stamp
 pub record Stamped (rs : List Record) (what : Key) (seen : List ℕ) (stamp p : ℕ) : Type 0 where
-  pub known : (n : ℕ) → earlier rs what n p ≡ true → getD seen (n % 4096) 0 ≡ stamp
+  pub known : (n : ℕ) → earlier rs what n p ≡ true → getD seen (n % 4093) 0 ≡ stamp

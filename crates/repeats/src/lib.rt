@@ -64,15 +64,8 @@ pub fn mark_at(marks: &[u8], p: usize) -> u8
 }
 
 // One place: a zero where no earlier record of the declaration left its stamp for a key of the same remainder.
-fn mark_place(
-    t: &[u8],
-    what: Key,
-    stamp: u16,
-    p: usize,
-    seen: &mut [u16],
-    marks: &mut [u8],
-) -> u16
-    requires { ⌜ (p < 1600) × (1600 ≤ length (now marks)) × (4096 ≤ length (now seen)) × Marked (decode (now t)) what (now marks) × Stamped (decode (now t)) what (now seen) stamp p ⌝ }
+fn mark_place(t: &[u8], what: Key, stamp: u16, p: usize, seen: &mut [u16], marks: &mut [u8]) -> u16
+    requires { ⌜ (p < 1600) × (1600 ≤ length (now marks)) × (4093 ≤ length (now seen)) × Marked (decode (now t)) what (now marks) × Stamped (decode (now t)) what (now seen) stamp p ⌝ }
     ensures { λ r. ⌜ Marked (decode (now (t .entry))) what (now (marks .exit)) × Stamped (decode (now (t .entry))) what (now (seen .exit)) r (p + 1) ⌝ }
 {
     let k = table::kind(t, p);
@@ -82,7 +75,8 @@ fn mark_place(
     if !selects(what, k) {
         return stamp;
     }
-    let h = (key_at(what, t, p) % 4096) as usize;
+    // The divisor is prime: keys that are multiples of a power of two differ in their remainders.
+    let h = (key_at(what, t, p) % 4093) as usize;
     if seen[h] == stamp {
         return stamp;
     }
@@ -93,7 +87,7 @@ fn mark_place(
 
 // The first n places. Each declaration has its own stamp, so that `seen` is not cleared between them.
 fn mark_places(t: &[u8], what: Key, n: usize, seen: &mut [u16], marks: &mut [u8])
-    requires { ⌜ (n ≤ 1600) × (1600 ≤ length (now marks)) × (4096 ≤ length (now seen)) × Marked (decode (now t)) what (now marks) ⌝ }
+    requires { ⌜ (n ≤ 1600) × (1600 ≤ length (now marks)) × (4093 ≤ length (now seen)) × Marked (decode (now t)) what (now marks) ⌝ }
     ensures { λ _. ⌜ Marked (decode (now (t .entry))) what (now (marks .exit)) ⌝ }
 {
     let mut stamp = 0;
@@ -113,7 +107,7 @@ pub fn mark(t: &[u8], what: Key, marks: &mut [u8])
     if 1600 < n {
         return;
     }
-    let mut seen = [0u16; 4096];
+    let mut seen = [0u16; 4093];
     mark_places(t, what, n, &mut seen, marks);
 }
 

@@ -1,5 +1,6 @@
 // Searches among the places of a table.
 use crate::kinds::holds;
+use crate::kinds::is_decl;
 use rules::Found;
 use rules::Target;
 ghost use mathlib.Core.Path.{_≡_};
@@ -38,11 +39,26 @@ pub fn first(t: &[u8], x: Target, a: usize) -> Found
     Found::Nothing
 }
 
+// The declaration that p stands in. The search for a target reads whole records, this one only kinds.
+pub fn nearest_decl(t: &[u8], p: usize) -> Found
+    ensures { λ r. ⌜ r ≡ nearest (holdsAt (decode (now (t .entry))) Target.Decl) p ⌝ }
+{
+    let mut i = p;
+    while 0 < i {
+        let q = i - 1;
+        if is_decl(crate::kind(t, q)) {
+            return Found::At(q);
+        }
+        i = q;
+    }
+    Found::Nothing
+}
+
 // The first place of the declaration that p stands in, or of what follows it.
 pub fn first_within(t: &[u8], x: Target, p: usize) -> Found
     ensures { λ r. ⌜ r ≡ firstWithin (decode (now (t .entry))) x p ⌝ }
 {
-    match nearest(t, Target::Decl, p) {
+    match nearest_decl(t, p) {
         Found::At(d) => first(t, x, d + 1),
         Found::Nothing => Found::Nothing,
     }

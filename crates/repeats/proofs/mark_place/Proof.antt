@@ -2,12 +2,10 @@
 use borrow.Author.Needs.{needs}
 use borrow.Author.Tests.{not-true, not-false}
 use denote.Ref.{now}
-use mathlib.Core.Path.{_≡_, refl, sym, ap, _∙_}
-use mathlib.Core.Bool.{true, false}
+use mathlib.Core.Path.{sym, _∙_}
 use Prim.Native.Nat.{ℕ, _%_, _<_}
 use lib.ListN.{length}
 use lib.Seq.{getD-set-same}
-use Rattle.rules.specs.Table.{decode}
 use Rattle.repeats.proofs.Laws.{stamped-decl, stamped-other, stamped-one, new-key, set-kept, marked-one}
 use Rattle.repeats.proofs.mark_place.Statement.{statement}
 use Rattle.repeats.proofs.mark_place.Tie as tie
@@ -54,7 +52,7 @@ returns-4 c =
     let i = f .before in
     let k = i .before in
     let s = k .before .before .before .before in
-    let h : ℕ = y .key-at .result % 4096 in
+    let h : ℕ = y .key-at .result % 4093 in
     let fits : h < length (now (s .args .seen)) = search needs in
     (marked-one _ _ _ _ (s .pre .3) (new-key _ _ _ _ _ (s .pre .4) (rw (← y .key-at .ensures) (c .if3 .left))), stamped-one _ _ _ (now (s .args .seen)) _ _ (s .pre .4) (rw (← k .kind .ensures) (sym (i .is-decl .ensures) ∙ f .if1 .left)) (rw (← k .kind .ensures) (sym (e .selects .ensures) ∙ not-false _ (g .if2 .left))) (rw (← y .key-at .ensures) (getD-set-same (now (s .args .seen)) h _ 0 fits)) (λ j e. set-kept (now (s .args .seen)) h j _ fits e))
 

@@ -1,7 +1,7 @@
 -- `repeats::mark_places` meets its contract. Assumes nothing.
 use borrow.Author.Needs.{needs}
 use Prim.Native.Nat.{_-_, _≤_}
-use mathlib.Core.Path.{_≡_, refl, sym, ap, _∙_}
+use mathlib.Core.Path.{_≡_, refl}
 use lib.ListN.{length}
 use Rattle.rules.specs.Table.{decode}
 use Rattle.repeats.specs.Marks.{Marked, Stamped}

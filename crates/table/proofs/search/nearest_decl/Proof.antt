@@ -1,0 +1,37 @@
+-- `table::search::nearest_decl` meets its contract: no place from i up to p is a declaration. Assumes nothing.
+use borrow.Author.Needs.{needs}
+use mathlib.Core.Path.{_≡_, refl, sym, _∙_}
+use Rattle.rules.specs.Table.{decode}
+use Rattle.rules.specs.Places.{nearest, holdsAt}
+use Rattle.rules.specs.declared.Target.the-variants.{Decl}
+use Rattle.table.proofs.Laws.{down-hit, down-miss, down-end}
+use Rattle.table.proofs.search.nearest_decl.Statement.{statement}
+use Rattle.table.proofs.search.nearest_decl.Tie as tie
+
+abbrev Inv-loop : tie.InvT-loop
+Inv-loop t p i₀ i = nearest (holdsAt (decode t) Decl) p ≡ nearest (holdsAt (decode t) Decl) i
+
+abbrev μ-loop : tie.MeasureT-loop
+μ-loop t p i₀ i = i
+
+returns : tie.Need-returns Inv-loop μ-loop
+returns c =
+    let h = c .before in
+    let r = h .before in
+    let l = r .before .before .loop in
+    down-hit _ _ (l .i) (l .inv) (r .before .loop-test .taken) (rw (← r .kind .ensures) (sym (h .is-decl .ensures) ∙ c .if1 .taken))
+
+loop-again : tie.Need-loop-again Inv-loop μ-loop
+loop-again c =
+    let h = c .before in
+    let r = h .before in
+    let l = r .before .before .loop in
+    down-miss _ _ (l .i) (l .inv) (r .before .loop-test .taken) (rw (← r .kind .ensures) (sym (h .is-decl .ensures) ∙ c .if1 .left))
+
+returns-2 : tie.Need-returns-2 Inv-loop μ-loop
+returns-2 c = down-end _ _ (c .before .loop .i) (c .before .loop .inv) (c .loop-test .left)
+
+pub nearest-decl-spec : {M : Type 1} → statement M
+nearest-decl-spec =
+    tie.close
+    (tie.spec Inv-loop μ-loop (λ c. refl) (λ c. search needs) (λ c κs. search needs) (λ c κs. search needs) returns (λ c. search needs) loop-again returns-2)
