@@ -8,8 +8,12 @@ use crate::generate::sound_table_near;
 use crate::groups;
 use crate::record::{encode_table, kind, Record};
 use crate::reply::Reply;
+use crate::stored::Part;
 use std::fmt::Write;
 use std::hint::black_box;
+use std::io::Write as _;
+use std::path::Path;
+use std::process::{Command, Stdio};
 use std::time::{Duration, Instant};
 
 const RUNS: usize = 51;
@@ -155,6 +159,49 @@ pub fn text() -> String {
         .expect("a string takes any text");
     }
     text
+}
+
+/// How many times a timed program gets a table in one run.
+const REPEATED: u32 = 50;
+
+/// The Rust's passes 1 to 9 beside the crate `replay`, which is run on the same tables; its times include reading a table and
+/// printing a line. Call it on a deep stack.
+pub fn parts_text(program: &Path) -> std::io::Result<String> {
+    let mut text = format!(
+        "{:<36} {:>14} {:>8} {:>8} {:>14}\n",
+        "table (medians in microseconds)", "Rust, 1 to 9", "pass 1", "pass 2", "passes 2 to 9"
+    );
+    for NamedTable { name, table } in tables() {
+        let file = to_file(&table);
+        let rust = median(|| passes::check(&file).is_ok()).as_nanos() as f64 / 1_000.0;
+        let bytes = encode_table(&table);
+        write!(text, "{name:<36} {rust:>14.1}").expect("a string takes any text");
+        for (part, width) in [(Part::Scope, 8), (Part::Order, 8), (Part::Checks, 14)] {
+            let time = program_time(program, part, &bytes)?.as_nanos() as f64 / 1_000.0;
+            write!(text, " {time:>width$.1}").expect("a string takes any text");
+        }
+        text.push('\n');
+    }
+    Ok(text)
+}
+
+/// The median time of a program for one table, of runs with many of them.
+fn program_time(program: &Path, part: Part, table: &[u8]) -> std::io::Result<Duration> {
+    let mut times = Vec::new();
+    for _ in 0..9 {
+        let begin = Instant::now();
+        let mut running =
+            Command::new(program).stdin(Stdio::piped()).stdout(Stdio::null()).spawn()?;
+        let mut input = running.stdin.take().expect("a piped standard input");
+        for _ in 0..REPEATED {
+            input.write_all(&part.case_bytes(table, 0, 200))?;
+        }
+        drop(input);
+        running.wait()?;
+        times.push(begin.elapsed() / REPEATED);
+    }
+    times.sort_unstable();
+    Ok(times[times.len() / 2])
 }
 
 fn medians(table: &[Record]) -> Medians {

@@ -22,7 +22,8 @@ const USAGE: &str = "usage:
   oracle cases COUNT MAXRECORDS [--seed S]         small cases as text
   oracle stored DIRECTORY PART=COUNT.. [--seed S]  stdin and stdout of the program that replays parts
                                                    of the analyzer (layout, scope, order, checks)
-  oracle bench                                     the time that the Rust passes take";
+  oracle bench                                     the time that the Rust passes take
+  oracle bench-parts PROGRAM                       the same beside the program that replays parts";
 
 /// Where differences between a program and the oracle are saved.
 const DIFFERENCES: &str = "target/differences";
@@ -87,6 +88,7 @@ fn run(arguments: &[String]) -> Result<ExitCode, String> {
         "cases" => run_cases(&Arguments::parse(rest, &["--seed"])?),
         "stored" => run_stored(&Arguments::parse(rest, &["--seed"])?),
         "bench" => run_bench(&Arguments::parse(rest, &[])?),
+        "bench-parts" => run_bench_parts(&Arguments::parse(rest, &[])?),
         _ => Err(format!("unknown command `{command}`\n{USAGE}")),
     }
 }
@@ -207,4 +209,11 @@ fn run_stored(arguments: &Arguments) -> Result<ExitCode, String> {
 fn run_bench(arguments: &Arguments) -> Result<ExitCode, String> {
     let [] = arguments.expect()?;
     print_bytes(bench::text().as_bytes())
+}
+
+fn run_bench_parts(arguments: &Arguments) -> Result<ExitCode, String> {
+    let [program] = arguments.expect()?;
+    let text =
+        bench::parts_text(Path::new(program)).map_err(|error| format!("{program}: {error}"))?;
+    print_bytes(text.as_bytes())
 }

@@ -47,6 +47,13 @@ impl Part {
         }
     }
 
+    /// A case as the crate `replay` reads it.
+    pub fn case_bytes(self, input: &[u8], table_len: usize, fault_len: usize) -> Vec<u8> {
+        let lengths = [input.len(), table_len, fault_len].map(|length| length as u32);
+        let head = std::iter::once(self.number()).chain(lengths);
+        head.flat_map(u32::to_le_bytes).chain(input.iter().copied()).collect()
+    }
+
     /// Whether a reply is one that this part gives.
     fn gives(self, reply: Reply) -> bool {
         match (self, reply) {
@@ -151,11 +158,7 @@ pub struct Stored {
 
 impl Stored {
     fn push(&mut self, part: Part, case: &Case, answer: &Answer) {
-        self.input.extend_from_slice(&part.number().to_le_bytes());
-        for length in [case.input.len(), case.table_len, case.fault_len] {
-            self.input.extend_from_slice(&(length as u32).to_le_bytes());
-        }
-        self.input.extend_from_slice(&case.input);
+        self.input.extend(part.case_bytes(&case.input, case.table_len, case.fault_len));
         self.output.push_str(&part.line(case, answer));
         let mut codes: Vec<u16> = answer.faults.iter().map(|fault| fault.code).collect();
         codes.sort_unstable();
