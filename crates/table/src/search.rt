@@ -43,13 +43,13 @@ pub fn first(t: &[u8], x: Target, a: usize) -> Found
 pub fn nearest_decl(t: &[u8], p: usize) -> Found
     ensures { λ r. ⌜ r ≡ nearest (holdsAt (decode (now (t .entry))) Target.Decl) p ⌝ }
 {
-    let mut i = p;
-    while 0 < i {
-        let q = i - 1;
+    let mut j = p;
+    while 0 < j {
+        let q = j - 1;
         if is_decl(crate::kind(t, q)) {
             return Found::At(q);
         }
-        i = q;
+        j = q;
     }
     Found::Nothing
 }

@@ -1,4 +1,4 @@
--- `table::search::nearest_decl` meets its contract: no place from i up to p is a declaration. Assumes nothing.
+-- `table::search::nearest_decl` meets its contract: no place from j up to p is a declaration. Assumes nothing.
 use borrow.Author.Needs.{needs}
 use mathlib.Core.Path.{_≡_, refl, sym, _∙_}
 use Rattle.rules.specs.Table.{decode}
@@ -9,27 +9,27 @@ use Rattle.table.proofs.search.nearest_decl.Statement.{statement}
 use Rattle.table.proofs.search.nearest_decl.Tie as tie
 
 abbrev Inv-loop : tie.InvT-loop
-Inv-loop t p i₀ i = nearest (holdsAt (decode t) Decl) p ≡ nearest (holdsAt (decode t) Decl) i
+Inv-loop t p j₀ j = nearest (holdsAt (decode t) Decl) p ≡ nearest (holdsAt (decode t) Decl) j
 
 abbrev μ-loop : tie.MeasureT-loop
-μ-loop t p i₀ i = i
+μ-loop t p j₀ j = j
 
 returns : tie.Need-returns Inv-loop μ-loop
 returns c =
     let h = c .before in
     let r = h .before in
     let l = r .before .before .loop in
-    down-hit _ _ (l .i) (l .inv) (r .before .loop-test .taken) (rw (← r .kind .ensures) (sym (h .is-decl .ensures) ∙ c .if1 .taken))
+    down-hit _ _ (l .j) (l .inv) (r .before .loop-test .taken) (rw (← r .kind .ensures) (sym (h .is-decl .ensures) ∙ c .if1 .taken))
 
 loop-again : tie.Need-loop-again Inv-loop μ-loop
 loop-again c =
     let h = c .before in
     let r = h .before in
     let l = r .before .before .loop in
-    down-miss _ _ (l .i) (l .inv) (r .before .loop-test .taken) (rw (← r .kind .ensures) (sym (h .is-decl .ensures) ∙ c .if1 .left))
+    down-miss _ _ (l .j) (l .inv) (r .before .loop-test .taken) (rw (← r .kind .ensures) (sym (h .is-decl .ensures) ∙ c .if1 .left))
 
 returns-2 : tie.Need-returns-2 Inv-loop μ-loop
-returns-2 c = down-end _ _ (c .before .loop .i) (c .before .loop .inv) (c .loop-test .left)
+returns-2 c = down-end _ _ (c .before .loop .j) (c .before .loop .inv) (c .loop-test .left)
 
 pub nearest-decl-spec : {M : Type 1} → statement M
 nearest-decl-spec =
