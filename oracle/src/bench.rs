@@ -1,7 +1,7 @@
 //! The tables of the benchmark, and the time that the Rust passes take on them.
 
 use crate::analyzer::passes;
-use crate::answer::answer;
+use crate::answer::{answer, PROGRAM_BUFFER};
 use crate::ast::File;
 use crate::convert::{to_file, to_table};
 use crate::generate::sound_table_near;
@@ -17,6 +17,8 @@ use std::process::{Command, Stdio};
 use std::time::{Duration, Instant};
 
 const RUNS: usize = 51;
+/// After so long no further run is begun.
+const LONG: Duration = Duration::from_secs(1);
 
 /// A table with the name that the benchmark prints.
 pub struct NamedTable {
@@ -35,6 +37,8 @@ pub fn tables() -> Vec<NamedTable> {
         named("799 sizes with their arrays", sizes()),
         named("1,600 packets in a parent chain", parents()),
         named("nested groups", nested_groups()),
+        named("groups 500 deep, constrained", deep_groups(500, 39, 40)),
+        named("groups 250 deep, 800 times", deep_groups(250, 799, 2)),
         named("soft stroke", soft_stroke()),
     ]
 }
@@ -116,6 +120,20 @@ fn nested_groups() -> Vec<Record> {
     table
 }
 
+/// A chain of groups with a constraint at each level, inlined `times` times into a packet; the innermost has `fields` scalars.
+fn deep_groups(depth: usize, times: usize, fields: usize) -> Vec<Record> {
+    let mut table = vec![named(kind::GROUP, 1)];
+    table.extend((0..fields).map(|at| Record { one: 8, ..named(kind::SCALAR, 1_000 + at) }));
+    for at in 1..depth {
+        table.push(named(kind::GROUP, 1 + at));
+        table.push(Record { second: at as u16, ..Record::of(kind::GROUP_FIELD) });
+        table.push(Record { marks: 1, one: 3, ..named(kind::CONSTRAINT, 2_000 + at) });
+    }
+    table.push(named(kind::PACKET, 3_000));
+    table.extend(vec![Record { second: depth as u16, ..Record::of(kind::GROUP_FIELD) }; times]);
+    table
+}
+
 /// The soft stroke of document 01.
 pub fn soft_stroke() -> Vec<Record> {
     let scalar = |name, one, key| Record { one, key, ..named(kind::SCALAR, name) };
@@ -164,12 +182,18 @@ pub fn text() -> String {
 /// How many times a timed program gets a table in one run.
 const REPEATED: u32 = 50;
 
-/// The Rust's passes 1 to 9 beside the crate `replay`, which is run on the same tables; its times include reading a table and
-/// printing a line. Call it on a deep stack.
+/// The Rust's passes beside the crate `replay`, which is run on the same tables; its times include reading a table, digests of
+/// the buffers and printing a line. Call it on a deep stack.
 pub fn parts_text(program: &Path) -> std::io::Result<String> {
     let mut text = format!(
-        "{:<36} {:>14} {:>8} {:>8} {:>14}\n",
-        "table (medians in microseconds)", "Rust, 1 to 9", "pass 1", "pass 2", "passes 2 to 9"
+        "{:<36} {:>14} {:>8} {:>8} {:>14} {:>10} {:>8}\n",
+        "table (medians in microseconds)",
+        "Rust, 1 to 9",
+        "pass 1",
+        "pass 2",
+        "passes 2 to 9",
+        "Rust, all",
+        "whole"
     );
     for NamedTable { name, table } in tables() {
         let file = to_file(&table);
@@ -180,7 +204,9 @@ pub fn parts_text(program: &Path) -> std::io::Result<String> {
             let time = program_time(program, part, &bytes)?.as_nanos() as f64 / 1_000.0;
             write!(text, " {time:>width$.1}").expect("a string takes any text");
         }
-        text.push('\n');
+        let all = median(|| run_passes(&file)).as_nanos() as f64 / 1_000.0;
+        let whole = program_time(program, Part::Whole, &bytes)?.as_nanos() as f64 / 1_000.0;
+        writeln!(text, " {all:>10.1} {whole:>8.1}").expect("a string takes any text");
     }
     Ok(text)
 }
@@ -194,7 +220,7 @@ fn program_time(program: &Path, part: Part, table: &[u8]) -> std::io::Result<Dur
             Command::new(program).stdin(Stdio::piped()).stdout(Stdio::null()).spawn()?;
         let mut input = running.stdin.take().expect("a piped standard input");
         for _ in 0..REPEATED {
-            input.write_all(&part.case_bytes(table, 0, 200))?;
+            input.write_all(&part.case_bytes(table, PROGRAM_BUFFER, 200))?;
         }
         drop(input);
         running.wait()?;
@@ -223,14 +249,14 @@ pub fn run_passes(file: &File) -> File {
     inlined
 }
 
+/// The median time of up to `RUNS` runs, of fewer where they take long.
 fn median<T>(mut work: impl FnMut() -> T) -> Duration {
-    let mut times: Vec<Duration> = (0..RUNS)
-        .map(|_| {
-            let begin = Instant::now();
-            black_box(work());
-            begin.elapsed()
-        })
-        .collect();
+    let mut times: Vec<Duration> = Vec::new();
+    while times.len() < RUNS && (times.len() < 3 || times.iter().sum::<Duration>() < LONG) {
+        let begin = Instant::now();
+        black_box(work());
+        times.push(begin.elapsed());
+    }
     times.sort_unstable();
-    times[RUNS / 2]
+    times[times.len() / 2]
 }

@@ -3,6 +3,7 @@
 mod damage;
 mod draft;
 mod finish;
+mod nested;
 mod plant;
 mod rooms;
 mod sound;
@@ -12,6 +13,7 @@ use crate::random::Random;
 use crate::record::{encode_table, Record, RECORD_BYTES};
 use crate::reply::Reply;
 use draft::Drafting;
+pub use nested::edges;
 
 /// One generated case: a table and the lengths of the two buffers.
 #[derive(Clone, Debug, PartialEq, Eq)]
@@ -64,10 +66,10 @@ pub fn generate_small(seed: u64, most: usize) -> Case {
 
 /// The bytes of a table of some random sort.
 fn table_bytes(random: &mut Random, bounds: Bounds) -> Vec<u8> {
-    let weights: [usize; 14] = if bounds.is_small {
-        [200, 480, 120, 110, 60, 40, 15, 80, 0, 0, 0, 0, 0, 0]
+    let weights: [usize; 15] = if bounds.is_small {
+        [200, 480, 120, 110, 60, 40, 15, 80, 0, 0, 0, 0, 0, 0, 60]
     } else {
-        [280, 380, 130, 35, 35, 40, 12, 30, 16, 16, 10, 8, 10, 12]
+        [280, 380, 130, 35, 35, 40, 12, 30, 16, 16, 10, 8, 10, 12, 60]
     };
     match random.weighted(&weights) {
         0 => encode_table(&sound_table(random, bounds)),
@@ -83,7 +85,8 @@ fn table_bytes(random: &mut Random, bounds: Bounds) -> Vec<u8> {
         10 => encode_table(&rooms::deep(random)),
         11 => encode_table(&rooms::many_faults(random)),
         12 => encode_table(&large_table(random)),
-        _ => damage::too_long(random),
+        13 => damage::too_long(random),
+        _ => encode_table(&nested::nested(random, bounds)),
     }
 }
 

@@ -7,6 +7,7 @@ use oracle::compare::Comparison;
 use oracle::coverage::{Coverage, WANTED};
 use oracle::generate::{generate, generate_small};
 use oracle::print::printed;
+use oracle::reply::Reply;
 use oracle::stored::{Part, Stored};
 use oracle::verify::{silence_panics, verify, Verified};
 use std::io::{Read, Write};
@@ -21,7 +22,8 @@ const USAGE: &str = "usage:
   oracle verify COUNT [--seed S]                   the Rust panics exactly on Unfit and Loose
   oracle cases COUNT MAXRECORDS [--seed S]         small cases as text
   oracle stored DIRECTORY PART=COUNT.. [--seed S]  stdin and stdout of the program that replays parts
-                                                   of the analyzer (layout, scope, order, checks)
+                                                   of the analyzer (layout, scope, order, checks,
+                                                   whole)
   oracle bench                                     the time that the Rust passes take
   oracle bench-parts PROGRAM                       the same beside the program that replays parts";
 
@@ -203,6 +205,9 @@ fn run_stored(arguments: &Arguments) -> Result<ExitCode, String> {
     println!("{} cases, {} bytes", made.output.lines().count(), made.input.len());
     let codes: Vec<String> = made.codes.iter().map(|(code, n)| format!("{code}: {n}")).collect();
     println!("tables by fault code: {}", codes.join(", "));
+    let replies: Vec<String> =
+        Reply::NAMES.iter().zip(made.replies).map(|(name, n)| format!("{name}: {n}")).collect();
+    println!("tables of the whole analyzer by reply: {}", replies.join(", "));
     Ok(ExitCode::SUCCESS)
 }
 

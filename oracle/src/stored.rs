@@ -5,7 +5,7 @@ use crate::answer::{answer, Answer, PROGRAM_BUFFER};
 use crate::cases::FILLER;
 use crate::convert::{to_file, to_table};
 use crate::fault::FAULT_BYTES;
-use crate::generate::{generate, Case};
+use crate::generate::{edges, generate, Case};
 use crate::layout;
 use crate::record::Record;
 use crate::reply::Reply;
@@ -22,14 +22,17 @@ pub enum Part {
     Order,
     /// Passes 3 to 9, on tables without faults in passes 1 and 2.
     Checks,
+    /// The whole analyzer, on any bytes.
+    Whole,
 }
 
 impl Part {
-    const ALL: [(&'static str, Part); 4] = [
+    const ALL: [(&'static str, Part); 5] = [
         ("layout", Part::Layout),
         ("scope", Part::Scope),
         ("order", Part::Order),
         ("checks", Part::Checks),
+        ("whole", Part::Whole),
     ];
 
     /// The part of a name on the command line.
@@ -44,6 +47,7 @@ impl Part {
             Part::Scope => 2,
             Part::Order => 3,
             Part::Checks => 4,
+            Part::Whole => 5,
         }
     }
 
@@ -61,6 +65,7 @@ impl Part {
             (Part::Scope, Reply::Faulty(pass, _)) => pass == 1,
             (Part::Order, Reply::Faulty(pass, _)) => pass == 2,
             (Part::Checks, Reply::Faulty(pass, _)) => pass >= 3,
+            (Part::Whole, _) => true,
             _ => false,
         }
     }
@@ -68,18 +73,33 @@ impl Part {
     /// Whether the part is reached by a table with this reply.
     fn is_reached(self, reply: Reply) -> bool {
         match reply {
+            _ if self == Part::Whole => true,
             Reply::Uneven | Reply::TooLong | Reply::Malformed(_) => self == Part::Layout,
             Reply::Faulty(pass, _) => u32::from(pass.min(3)) + 1 >= self.number(),
             _ => true,
         }
     }
 
-    /// One in how many cases may pass the part without a reply of its own.
-    fn quiet_share(self) -> usize {
+    /// How many of `count` cases may have such a reply. Those that pass a part without a reply of its own are counted together.
+    fn most(self, reply: Reply, count: usize) -> usize {
+        let share = match (self, reply) {
+            (Part::Whole, Reply::Accepted(_)) => 1,
+            (Part::Whole, Reply::Faulty(..)) => 4,
+            (Part::Whole, Reply::Unfit(_) | Reply::Loose(_) | Reply::NoRoom(_)) => 8,
+            (Part::Whole, _) => 20,
+            _ if self.gives(reply) => 1,
+            (Part::Layout | Part::Scope, _) => 3,
+            (Part::Order, _) => 2,
+            (Part::Checks, _) => 10,
+        };
+        count / share
+    }
+
+    /// The replies that `most` counts together.
+    fn sort(self, reply: Reply) -> usize {
         match self {
-            Part::Layout | Part::Scope => 3,
-            Part::Order => 2,
-            Part::Checks => 10,
+            Part::Whole => reply.row(),
+            _ => usize::from(self.gives(reply)),
         }
     }
 
@@ -90,15 +110,32 @@ impl Part {
             Part::Scope => format!("{}\n", faults_kept(self, case, answer)),
             Part::Order => order_line(case, answer),
             Part::Checks => checks_line(case, answer),
+            Part::Whole => whole_line(case, answer),
+        }
+    }
+
+    /// The longest input of a case.
+    fn longest(self) -> usize {
+        if self == Part::Whole {
+            12_000
+        } else {
+            SHORT
         }
     }
 
     /// Inputs that every stored file of this part begins with.
     fn fixed(self) -> Vec<Case> {
-        let lengths: &[usize] =
-            if self == Part::Layout { &[0, 64_000, 64_040, 64_041] } else { &[0] };
+        let lengths: &[usize] = match self {
+            Part::Layout | Part::Whole => &[0, 64_000, 64_040, 64_041],
+            Part::Scope | Part::Order | Part::Checks => &[0],
+        };
         let case = |&length| Case { input: vec![0; length], table_len: 0, fault_len: 0 };
-        lengths.iter().map(case).collect()
+        let mut cases: Vec<Case> = lengths.iter().map(case).collect();
+        if self == Part::Whole {
+            let at_edge = |input| Case { input, table_len: PROGRAM_BUFFER, fault_len: 0 };
+            cases.extend(edges().into_iter().map(at_edge));
+        }
+        cases
     }
 }
 
@@ -139,13 +176,23 @@ fn checks_line(case: &Case, answer: &Answer) -> String {
     format!("{pass} {}\n", faults_kept(Part::Checks, case, answer))
 }
 
+/// The row of the reply from the top, its values, and the digests of both buffers.
+fn whole_line(case: &Case, answer: &Answer) -> String {
+    let (table, faults) = answer.buffers(case.table_len, case.fault_len, FILLER);
+    let line = answer.reply.line();
+    let values: Vec<&str> = line.split(' ').skip(1).collect();
+    let row = (answer.reply.row() + 1).to_string();
+    let numbers = [vec![row.as_str()], values].concat().join(" ");
+    format!("{numbers} {} {}\n", digest(&table), digest(&faults))
+}
+
 /// A digest of bytes, as the crate `replay` makes it.
 pub fn digest(bytes: &[u8]) -> u64 {
     bytes.iter().fold(7, |sum, &byte| (sum * 31 + u64::from(byte)) % (1 << 32))
 }
 
 /// Cases longer than this are left out, so that the stored file stays small.
-const LONGEST: usize = 1_600;
+const SHORT: usize = 1_600;
 
 /// The standard input and the expected output of the crate `replay`.
 #[derive(Default)]
@@ -154,12 +201,15 @@ pub struct Stored {
     pub output: String,
     /// In how many tables each fault code was found.
     pub codes: BTreeMap<u16, usize>,
+    /// How many tables the whole analyzer answers with each reply.
+    pub replies: [usize; Reply::NAMES.len()],
 }
 
 impl Stored {
     fn push(&mut self, part: Part, case: &Case, answer: &Answer) {
         self.input.extend(part.case_bytes(&case.input, case.table_len, case.fault_len));
         self.output.push_str(&part.line(case, answer));
+        self.replies[answer.reply.row()] += usize::from(part == Part::Whole);
         let mut codes: Vec<u16> = answer.faults.iter().map(|fault| fault.code).collect();
         codes.sort_unstable();
         codes.dedup();
@@ -173,21 +223,27 @@ impl Stored {
         for case in part.fixed() {
             self.push(part, &case, &answer(&case.input, case.table_len));
         }
-        let (mut taken, mut quiet, mut seed) = (0, 0, first_seed);
+        let (mut taken, mut by_sort, mut seed) = (0, [0; Reply::NAMES.len()], first_seed);
         while taken < count {
             let case = generate(seed);
             seed += 1;
-            if case.input.len() > LONGEST {
+            if case.input.len() > part.longest() {
                 continue;
             }
             let answer = answer(&case.input, case.table_len);
-            let is_quiet = !part.gives(answer.reply);
-            if !part.is_reached(answer.reply) || (is_quiet && quiet >= count / part.quiet_share()) {
+            let sort = part.sort(answer.reply);
+            let is_full = by_sort[sort] >= part.most(answer.reply, count);
+            if is_full || !part.is_reached(answer.reply) || is_long(&case, answer.reply) {
                 continue;
             }
             self.push(part, &case, &answer);
             taken += 1;
-            quiet += usize::from(is_quiet);
+            by_sort[sort] += 1;
         }
     }
+}
+
+/// Whether a case is longer than its reply is worth: only the room limits need more records.
+fn is_long(case: &Case, reply: Reply) -> bool {
+    case.input.len() > SHORT && !matches!(reply, Reply::Swollen | Reply::Overlisted)
 }

@@ -1,6 +1,7 @@
 //! Tables about the room limits, and about the fields that inlining and flags cannot take.
 
 use super::draft::{Draft, Drafting, EDGES};
+use super::nested::flags_to;
 use super::{finish, sound, Bounds};
 use crate::random::Random;
 use crate::record::{kind, Record, MOST_RECORDS};
@@ -142,12 +143,14 @@ pub fn flags(random: &mut Random, bounds: Bounds) -> Vec<Record> {
     finish::table(drafting)
 }
 
-/// A named field, mostly with a condition on one of the first two fields.
+/// A named field, mostly with a condition on one of the first three fields.
 fn flag_or_optional(drafting: &mut Drafting, number: usize) -> Vec<Record> {
     let name = drafting.field_name(number);
     let mut field = scalar(name as usize);
     if drafting.random.chance(25) {
         (field.kind, field.marks) = (kind::ARRAY, 1);
+    } else if drafting.random.chance(15) {
+        field = typed(drafting, name);
     }
     let mut part = vec![field];
     if drafting.random.chance(75) {
@@ -216,6 +219,10 @@ fn inlined_total(random: &mut Random, total: usize) -> Vec<Record> {
 /// A packet whose flag entries bring it to about as many records as a table holds.
 pub fn overlisted(random: &mut Random) -> Vec<Record> {
     let total = random.between(MOST_RECORDS - 1, MOST_RECORDS + 2);
+    if random.chance(50) {
+        let conditions = random.between(1, 12);
+        return finish::direct(random, flags_to(total, conditions));
+    }
     let conditions = random.between(100, 533);
     let flags = if random.chance(70) { 1 } else { 2 };
     let mut table = vec![named(kind::PACKET, 90)];
