@@ -1,0 +1,3 @@
+pub mod Inlinings
+pub mod Sizes
+pub mod Outputs
