@@ -32,9 +32,9 @@ fn lookup(t: &[u8], env: &[u16], x: u16) -> Found
     Found::Nothing
 }
 
-// A Scalar r that the constraint c fixes; c needs a value.
-fn fixed_scalar(r: Record, c: Record) -> Inlined
-    ensures { λ x. ⌜ x ≡ fixedScalar r c ⌝ }
+// A Scalar that the constraint c fixes; c needs a value.
+fn fixed_scalar(scalar: Record, c: Record) -> Inlined
+    ensures { λ x. ⌜ x ≡ fixedScalar scalar c ⌝ }
 {
     Inlined {
         made: Record {
@@ -43,32 +43,32 @@ fn fixed_scalar(r: Record, c: Record) -> Inlined
             name: 0,
             second: 0,
             third: 0,
-            one: r.one,
+            one: scalar.one,
             two: c.one,
-            key: r.key,
-            start: r.start,
-            end: r.end,
+            key: scalar.key,
+            start: scalar.start,
+            end: scalar.end,
         },
         fit: c.marks % 2 == 1,
     }
 }
 
-// A Typedef r that the constraint c fixes; c needs a tag.
-fn fixed_enum(r: Record, c: Record) -> Inlined
-    ensures { λ x. ⌜ x ≡ fixedEnum r c ⌝ }
+// A Typedef that the constraint c fixes; c needs a tag.
+fn fixed_enum(typedef: Record, c: Record) -> Inlined
+    ensures { λ x. ⌜ x ≡ fixedEnum typedef c ⌝ }
 {
     Inlined {
         made: Record {
             kind: 28,
             marks: 0,
             name: 0,
-            second: r.second,
+            second: typedef.second,
             third: c.second,
             one: 0,
             two: 0,
-            key: r.key,
-            start: r.start,
-            end: r.end,
+            key: typedef.key,
+            start: typedef.start,
+            end: typedef.end,
         },
         fit: !(c.second == 0),
     }

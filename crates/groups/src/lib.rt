@@ -92,7 +92,8 @@ fn expand(
         if table::kinds::is_decl(k) {
             return s;
         }
-        let bound = is_constraint_or_condition(k) & after;
+        let c = is_constraint_or_condition(k);
+        let bound = c & after;
         after = (k == 34) | bound;
         p = q + 1;
         if k == 34 {

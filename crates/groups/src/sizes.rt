@@ -61,7 +61,8 @@ fn size_after(t: &[u8], targets: &[u16], sizes: &[u16], d: usize) -> usize
         if table::kinds::is_decl(k) {
             return s;
         }
-        let bound = is_constraint_or_condition(k) & after;
+        let c = is_constraint_or_condition(k);
+        let bound = c & after;
         after = (k == 34) | bound;
         p = q + 1;
         let x = size_here(targets, sizes, k, q, bound);
