@@ -2,9 +2,12 @@
 use borrow.Author.Needs.{needs}
 use native.Mathlib.Omega.{arith}
 use borrow.Author.Tests.{eq-eqb, ne-eqb}
-use Prim.Native.Nat.{_≤_, _-_}
+use Prim.Native.Nat.{ℕ, _^_, _<_, _≤_, _-_}
 use mathlib.Core.Path.{_≡_, refl, sym, ap, _∙_}
 use lib.ListN.{length}
+use mir.Val.{WT}
+use mir.Syntax.{w16}
+use borrow.Table.Referent.{valF, fInt}
 use denote.Ref.{now}
 use Rattle.rules.specs.Table.{decode}
 use Rattle.rules.specs.Places.{nearest}
@@ -19,8 +22,12 @@ Inv-loop t env x n i₀ i = (nearest (namedAt (decode t) env x) (length env) ≡
 abbrev μ-loop : tie.MeasureT-loop
 μ-loop t env x n i₀ i = i
 
+-- a u16 is a usize
+small : (x : ℕ) → WT (valF (fInt w16) x) → x < 2 ^ 64
+small x h = omega arith
+
 cast-q : tie.Need-cast-q Inv-loop μ-loop
-cast-q c = omega (arith, c .shared-slice-known3 .given (c .before .before .loop .i - 1))
+cast-q c = record { fits = small _ (c .shared-slice-known3 .given _) }
 
 returns : tie.Need-returns Inv-loop μ-loop
 unfolding lookup
