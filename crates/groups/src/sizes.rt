@@ -7,9 +7,29 @@ ghost use Prim.Native.Nat.{_+_, _<_, _≤_, min};
 ghost use lib.ListN.{length, getD};
 ghost use Rattle.rules.specs.Table.{decode, at};
 ghost use Rattle.rules.specs.Kinds.{isDecl};
+ghost use Rattle.rules.specs.Places.{declNamed};
 ghost use Rattle.rules.specs.InlineGroups.{isKept};
 ghost use Rattle.order.specs.GroupsFirst.{GroupsFirst};
 ghost use Rattle.groups.specs.Sizes.{Resolved, sizeHere, sizeFrom, Sized, totalSize};
+
+// The declaration of a name. The search for a target reads whole records, this one kinds, and names of declarations.
+fn decl_named(t: &[u8], x: u16) -> Found
+    ensures { λ r. ⌜ r ≡ declNamed (decode (now (t .entry))) x ⌝ }
+{
+    let end = table::count(t);
+    let mut p = 0;
+    while p < end {
+        let q = p;
+        p = q + 1;
+        let k = table::kind(t, q);
+        if table::kinds::is_named_decl(k) {
+            if table::name(t, q) == x {
+                return Found::At(q);
+            }
+        }
+    }
+    Found::Nothing
+}
 
 // Writes, at the place of each group field, the place of the declaration that it names: one search for each.
 pub fn resolve(t: &[u8], targets: &mut [u16])
@@ -24,7 +44,7 @@ pub fn resolve(t: &[u8], targets: &mut [u16])
         p = q + 1;
         if table::kind(t, q) == 34 {
             let x = table::second(t, q);
-            if let Found::At(g) = table::search::decl_named(t, x) {
+            if let Found::At(g) = decl_named(t, x) {
                 targets[q] = g as u16;
             }
         }
