@@ -87,8 +87,7 @@ fn expand(
     let mut p = d + 1;
     while p < end {
         let q = p;
-        let r = table::record(t, q);
-        let k = r.kind;
+        let k = table::kind(t, q);
         if table::kinds::is_decl(k) {
             return s;
         }
@@ -103,6 +102,7 @@ fn expand(
                 s = expand(t, targets, sizes, g, env, m, out, s);
             }
         } else if !bound {
+            let r = table::record(t, q);
             let x = inlined_record(t, &env[..n], r);
             s = add(out, s, x);
         }

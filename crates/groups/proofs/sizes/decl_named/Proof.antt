@@ -34,18 +34,20 @@ loop-again c =
     let m = c .before in
     let i = m .before in
     let k = i .before .before in
-    let l = k .before .before .loop in
-    (up-miss _ _ _ (l .p) (l .inv .0) (k .before .loop-test .taken)
-    (rw (← k .kind .ensures, ← i .before .is-named-decl .ensures, i .if1 .taken) (ne-eqb _ _ (λ e. c .if2 .left (m .name .ensures ∙ e)))),
-     l .inv .1)
+    let l = k .before .before .loop in (
+      up-miss _ _ _ (l .p) (l .inv .0) (k .before .loop-test .taken)
+          (rw (← k .kind .ensures, ← i .before .is-named-decl .ensures, i .if1 .taken) (ne-eqb _ _ (λ e. c .if2 .left (m .name .ensures ∙ e)))),
+      l .inv .1,
+    )
 
 loop-again-2 : tie.Need-loop-again-2 Inv-loop μ-loop
 loop-again-2 c =
     let k = c .before .before in
-    let l = k .before .before .loop in
-    (up-miss _ _ _ (l .p) (l .inv .0) (k .before .loop-test .taken)
-    (rw (← k .kind .ensures, ← c .before .is-named-decl .ensures, c .if1 .left)),
-     l .inv .1)
+    let l = k .before .before .loop in (
+      up-miss _ _ _ (l .p) (l .inv .0) (k .before .loop-test .taken)
+          (rw (← k .kind .ensures, ← c .before .is-named-decl .ensures, c .if1 .left)),
+      l .inv .1,
+    )
 
 returns-2 : tie.Need-returns-2 Inv-loop μ-loop
 unfolding declNamed
