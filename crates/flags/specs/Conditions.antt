@@ -1,0 +1,15 @@
+-- Marks of the names that conditions give, so that fields of other names need no search.
+use Prim.Native.Nat.{ℕ, _%_, _<_, _≤_}
+use mathlib.Core.Path.{_≡_}
+use mathlib.Core.List.{List}
+use mathlib.Core.Bool.{true}
+use lib.ListN.{length, getD}
+use Rattle.rules.specs.Kinds as kind
+use Rattle.rules.specs.Kinds.{is}
+use Rattle.rules.specs.Table.{at}
+use Rattle.rules.specs.declared.Record.{Record}
+
+-- the name that each condition below p gives is marked, by its remainder
+pub record Conditioned (rs : List Record) (marks : List ℕ) (p : ℕ) : Type 0 where
+  pub long : 4093 ≤ length marks
+  pub known : (q : ℕ) → q < p → is kind.condition (at rs q) ≡ true → getD marks (at rs q .name % 4093) 0 ≡ 1
