@@ -1,6 +1,7 @@
 // Replays stored tables through parts of the analyzer: a line for each case says what the part answered.
 use checks::Checked;
 use rules::Layout;
+use rules::Reply;
 use rules::Tally;
 use stored::Case;
 use stored::Next;
@@ -96,6 +97,39 @@ fn print_checks(input: &[u8], faults: &mut [u8], out: &mut [u8]) {
     print_later(&out[..end], faults);
 }
 
+// The row of the reply and its values.
+fn print_reply(reply: Reply) {
+    match reply {
+        Reply::Uneven => stored::print(1, b' '),
+        Reply::TooLong => stored::print(2, b' '),
+        Reply::Malformed(place) => print_row(3, place as u64),
+        Reply::Faulty(pass, total) => {
+            print_row(4, pass as u64);
+            stored::print(total as u64, b' ');
+        }
+        Reply::Swollen => stored::print(5, b' '),
+        Reply::Unfit(key) => print_row(6, key.0 as u64),
+        Reply::Loose(key) => print_row(7, key.0 as u64),
+        Reply::Overlisted => stored::print(8, b' '),
+        Reply::NoRoom(needed) => print_row(9, needed as u64),
+        Reply::Accepted(records) => print_row(10, records as u64),
+    }
+}
+
+fn print_row(row: u64, value: u64) {
+    stored::print(row, b' ');
+    stored::print(value, b' ');
+}
+
+// The whole analyzer: the reply and the digests of both buffers.
+fn print_whole(input: &[u8], table: &mut [u8], faults: &mut [u8]) {
+    stored::fill(table);
+    stored::fill(faults);
+    print_reply(analyzer::analyze(input, table, faults));
+    stored::print(stored::digest(table), b' ');
+    stored::print(stored::digest(faults), b'\n');
+}
+
 fn print_part(part: u32, input: &[u8], faults: &mut [u8], out: &mut [u8]) {
     match part {
         1 => print_layout(layout::check_layout(input)),
@@ -112,11 +146,19 @@ fn one_case(input: &mut [u8], faults: &mut [u8], out: &mut [u8]) -> bool {
         Next::Read(case) => {
             let size = case.input;
             let room = case.faults;
+            let table = case.table;
             if input.len() < size {
                 return false;
             }
             if faults.len() < room {
                 return false;
+            }
+            if out.len() < table {
+                return false;
+            }
+            if case.part == 5 {
+                print_whole(&input[..size], &mut out[..table], &mut faults[..room]);
+                return true;
             }
             print_part(case.part, &input[..size], &mut faults[..room], out);
             true
