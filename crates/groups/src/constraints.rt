@@ -40,7 +40,7 @@ fn fixed_scalar(scalar: Record, c: Record) -> Inlined
         made: Record {
             kind: 27,
             marks: 0,
-            name: 0,
+            name: 0, // a fixed field has none
             second: 0,
             third: 0,
             one: scalar.one,
