@@ -227,6 +227,6 @@ no-detail Overlisted h t f = refl
 no-detail (NoRoom needed) h t f = refl
 no-detail (Accepted records) h t f = absurd (miss (0 ∷ 1 ∷ 2 ∷ 4 ∷ 5 ∷ 6 ∷ 7 ∷ 8 ∷ []) 9 tt h)
 
-pub records-behind : (n : ℕ) {r : Reply} → r ≡ Accepted n → recordsBehind r ≡ n
+pub records-behind : (n : ℕ) {r : Reply} → r ≡ Accepted n → recordsBehind (numbered r) ≡ n
 unfolding recordsBehind numbered
-records-behind n e = ap recordsBehind e
+records-behind n e = ap (λ (x : Reply). recordsBehind (numbered x)) e

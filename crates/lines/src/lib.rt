@@ -11,7 +11,7 @@ ghost use Rattle.rules.specs.Bytes.{written};
 ghost use Rattle.rules.specs.Faults.{faultAt, faultRoom};
 ghost use Rattle.rules.specs.Replies.{numbered, answered};
 ghost use Rattle.rules.specs.Printed.{decimal, listing, line, replyLine, recordLine, faultLine, recordLines, faultLines, detail, printed};
-ghost use Rattle.lines.specs.Appended.{Appended, recordsBehind};
+ghost use Rattle.lines.specs.Appended.{Appended, Whole};
 
 // The decimal digits of x.
 fn append_digits(text: &mut [u8], at: usize, x: u64) -> usize
@@ -193,7 +193,7 @@ fn kept(total: usize, faults: &[u8]) -> usize
 
 // What stands behind the reply's line: the faults kept, or the records.
 fn append_detail(text: &mut [u8], at: usize, reply: Reply, table: &[u8], faults: &[u8]) -> usize
-    requires { ⌜ (at + 336000 ≤ length (now text)) × (length (now table) ≤ 64000) × (length (now faults) ≤ 64000) × (40 * recordsBehind reply ≤ length (now table)) ⌝ }
+    requires { ⌜ (at + 336000 ≤ length (now text)) × (length (now table) ≤ 64000) × (length (now faults) ≤ 64000) × Whole (answered reply (now table) (now faults)) ⌝ }
     ensures { λ r. ⌜ Appended (now (text .entry)) at (detail (numbered reply) (now (table .entry)) (now (faults .entry))) (now (text .exit)) r ⌝ }
 {
     match reply {
@@ -205,7 +205,7 @@ fn append_detail(text: &mut [u8], at: usize, reply: Reply, table: &[u8], faults:
 
 // All that is printed, from the start of the text; it ends at the place returned.
 pub fn append_answer(text: &mut [u8], reply: Reply, table: &[u8], faults: &[u8]) -> usize
-    requires { ⌜ (340000 ≤ length (now text)) × (length (now table) ≤ 64000) × (length (now faults) ≤ 64000) × (40 * recordsBehind reply ≤ length (now table)) ⌝ }
+    requires { ⌜ (340000 ≤ length (now text)) × (length (now table) ≤ 64000) × (length (now faults) ≤ 64000) × Whole (answered reply (now table) (now faults)) ⌝ }
     ensures { λ r. ⌜ (now (text .exit) ≡ written (now (text .entry)) 0 (printed (answered reply (now (table .entry)) (now (faults .entry))))) × (r ≡ length (printed (answered reply (now (table .entry)) (now (faults .entry))))) ⌝ }
 {
     let p = append_reply(text, 0, reply);
