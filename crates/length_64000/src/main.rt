@@ -1,0 +1,4 @@
+// The program on 64000 bytes.
+fn main() {
+    shell::run();
+}
