@@ -15,6 +15,7 @@ pub mod random;
 pub mod record;
 pub mod reply;
 pub mod stored;
+pub mod text;
 pub mod verify;
 
 /// The syntax tree of google/pdl, included as it was published.

@@ -9,6 +9,7 @@ use oracle::generate::{generate, generate_small};
 use oracle::print::printed;
 use oracle::reply::Reply;
 use oracle::stored::{Part, Stored};
+use oracle::text::{lines_of, table_of};
 use oracle::verify::{silence_panics, verify, Verified};
 use std::io::{Read, Write};
 use std::path::Path;
@@ -16,6 +17,8 @@ use std::process::ExitCode;
 
 const USAGE: &str = "usage:
   oracle answer [--table-len N] [--fault-len N]    the answer to the table on standard input
+  oracle table                                     the table of the lines on standard input
+  oracle lines                                     the lines of the table on standard input
   oracle generate SEED                             the bytes of a generated table
   oracle compare PROGRAM COUNT [--seed S]          a program's output against the oracle's
   oracle coverage COUNT [--seed S] [--small N]     how often cases reach each reply and code
@@ -83,6 +86,8 @@ fn run(arguments: &[String]) -> Result<ExitCode, String> {
     let (command, rest) = arguments.split_first().ok_or(USAGE)?;
     match command.as_str() {
         "answer" => run_answer(&Arguments::parse(rest, &["--table-len", "--fault-len"])?),
+        "table" => run_table(&Arguments::parse(rest, &[])?),
+        "lines" => run_lines(&Arguments::parse(rest, &[])?),
         "generate" => run_generate(&Arguments::parse(rest, &[])?),
         "compare" => run_compare(&Arguments::parse(rest, &["--seed"])?),
         "coverage" => run_coverage(&Arguments::parse(rest, &["--seed", "--small"])?),
@@ -104,9 +109,24 @@ fn run_answer(arguments: &Arguments) -> Result<ExitCode, String> {
     let [] = arguments.expect()?;
     let table_len = arguments.option("--table-len", PROGRAM_BUFFER as u64) as usize;
     let fault_len = arguments.option("--fault-len", PROGRAM_BUFFER as u64) as usize;
+    print_bytes(printed(&answer(&standard_input()?, table_len), fault_len).as_bytes())
+}
+
+fn standard_input() -> Result<Vec<u8>, String> {
     let mut input = Vec::new();
     std::io::stdin().read_to_end(&mut input).map_err(|error| error.to_string())?;
-    print_bytes(printed(&answer(&input, table_len), fault_len).as_bytes())
+    Ok(input)
+}
+
+fn run_table(arguments: &Arguments) -> Result<ExitCode, String> {
+    let [] = arguments.expect()?;
+    let text = String::from_utf8(standard_input()?).map_err(|error| error.to_string())?;
+    print_bytes(&table_of(&text)?)
+}
+
+fn run_lines(arguments: &Arguments) -> Result<ExitCode, String> {
+    let [] = arguments.expect()?;
+    print_bytes(lines_of(&standard_input()?)?.as_bytes())
 }
 
 fn run_generate(arguments: &Arguments) -> Result<ExitCode, String> {

@@ -15,7 +15,8 @@ pub fn printed(answer: &Answer, fault_len: usize) -> String {
     text
 }
 
-fn push_record(record: &Record, text: &mut String) {
+/// Appends the line of a record.
+pub fn push_record(record: &Record, text: &mut String) {
     let Record { kind, marks, name, second, third, one, two, key, start, end } = record;
     writeln!(text, "{kind} {marks} {name} {second} {third} {one} {two} {key} {start} {end}")
         .expect("a string takes any text");
