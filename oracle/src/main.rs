@@ -11,6 +11,7 @@ use oracle::reply::Reply;
 use oracle::stored::{Part, Stored};
 use oracle::text::{lines_of, table_of};
 use oracle::verify::{silence_panics, verify, Verified};
+use std::collections::BTreeMap;
 use std::io::{Read, Write};
 use std::path::Path;
 use std::process::ExitCode;
@@ -223,12 +224,17 @@ fn run_stored(arguments: &Arguments) -> Result<ExitCode, String> {
     write("stdin", &made.input)?;
     write("stdout", made.output.as_bytes())?;
     println!("{} cases, {} bytes", made.output.lines().count(), made.input.len());
-    let codes: Vec<String> = made.codes.iter().map(|(code, n)| format!("{code}: {n}")).collect();
-    println!("tables by fault code: {}", codes.join(", "));
+    println!("tables of the parts by fault code: {}", counts(&made.codes));
+    println!("tables of the whole analyzer by fault code: {}", counts(&made.whole_codes));
     let replies: Vec<String> =
         Reply::NAMES.iter().zip(made.replies).map(|(name, n)| format!("{name}: {n}")).collect();
     println!("tables of the whole analyzer by reply: {}", replies.join(", "));
     Ok(ExitCode::SUCCESS)
+}
+
+fn counts(codes: &BTreeMap<u16, usize>) -> String {
+    let counts: Vec<String> = codes.iter().map(|(code, n)| format!("{code}: {n}")).collect();
+    counts.join(", ")
 }
 
 fn run_bench(arguments: &Arguments) -> Result<ExitCode, String> {

@@ -84,7 +84,7 @@ impl Part {
     fn most(self, reply: Reply, count: usize) -> usize {
         let share = match (self, reply) {
             (Part::Whole, Reply::Accepted(_)) => 1,
-            (Part::Whole, Reply::Faulty(..)) => 4,
+            (Part::Whole, Reply::Faulty(..)) => 2,
             (Part::Whole, Reply::Unfit(_) | Reply::Loose(_) | Reply::NoRoom(_)) => 8,
             (Part::Whole, _) => 20,
             _ if self.gives(reply) => 1,
@@ -199,8 +199,9 @@ const SHORT: usize = 1_600;
 pub struct Stored {
     pub input: Vec<u8>,
     pub output: String,
-    /// In how many tables each fault code was found.
+    /// In how many tables each fault code was found, by part and by the whole analyzer.
     pub codes: BTreeMap<u16, usize>,
+    pub whole_codes: BTreeMap<u16, usize>,
     /// How many tables the whole analyzer answers with each reply.
     pub replies: [usize; Reply::NAMES.len()],
 }
@@ -213,8 +214,9 @@ impl Stored {
         let mut codes: Vec<u16> = answer.faults.iter().map(|fault| fault.code).collect();
         codes.sort_unstable();
         codes.dedup();
+        let counts = if part == Part::Whole { &mut self.whole_codes } else { &mut self.codes };
         for code in codes.into_iter().filter(|_| part.gives(answer.reply)) {
-            *self.codes.entry(code).or_default() += 1;
+            *counts.entry(code).or_default() += 1;
         }
     }
 
