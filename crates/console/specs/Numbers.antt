@@ -1,0 +1,21 @@
+-- The numbers of the C header: a reply as its row in the table of replies and two values.
+use Prim.Native.Nat.{ℕ}
+use mathlib.Core.List.{List, [], _∷_}
+use lib.ListN.{getD}
+use Rattle.rules.specs.Replies.{Numbered, Answer}
+
+-- the row, 1 to 10 from the top, then the first and the second value; 0 where the row has none
+unfoldable pub headerNumbers : Numbered → List ℕ
+headerNumbers n = n .row ∷ getD (n .values) 0 0 ∷ getD (n .values) 1 0 ∷ []
+
+-- all that a C caller finds afterwards: the three numbers and the bytes of both buffers
+pub record Outputs : Type 0 where
+  pub reply : List ℕ
+  pub table : List ℕ
+  pub faults : List ℕ
+
+abbrev pub outputs : List ℕ → List ℕ → List ℕ → Outputs
+outputs r t f = record { reply = r; table = t; faults = f }
+
+abbrev pub headerAnswer : Answer → Outputs
+headerAnswer a = outputs (headerNumbers (a .reply)) (a .table) (a .faults)
