@@ -250,7 +250,7 @@ pub fn run_passes(file: &File) -> File {
 }
 
 /// The median time of up to `RUNS` runs, of fewer where they take long.
-fn median<T>(mut work: impl FnMut() -> T) -> Duration {
+pub fn median<T>(mut work: impl FnMut() -> T) -> Duration {
     let mut times: Vec<Duration> = Vec::new();
     while times.len() < RUNS && (times.len() < 3 || times.iter().sum::<Duration>() < LONG) {
         let begin = Instant::now();
