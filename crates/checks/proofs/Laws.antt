@@ -1,15 +1,14 @@
--- Laws that several passes cite. Assumes nothing.
+-- The faults of a pass, place by place, and the passes in order. Assumes nothing.
 use Prim.Native.Nat.{ℕ, zero, suc, _+_, _-_, _<_, _≤_}
-use mathlib.Core.Path.{_≡_, refl, sym, ap, _∙_}
+use mathlib.Core.Path.{_≡_, refl, ap, _∙_}
 use mathlib.Core.List.{List, [], _++_, append-nil}
-use mathlib.Core.Bool.{Bool, true, false, _&&_}
-use borrow.Author.Tests.{leb-true, ne-eqb, lt-ltb, le-ltb}
+use mathlib.Core.Bool.{Bool, true, false}
+use borrow.Author.Tests.{ne-eqb, lt-ltb, le-ltb}
 use native.Mathlib.Omega.{arith}
 use lib.ListN.{length}
-use lib.Dec.{eqb, leb}
+use lib.Dec.{eqb}
 use Rattle.rules.specs.Choice.{if_then_else_}
-use Rattle.rules.specs.Kinds.{isSize}
-use Rattle.rules.specs.Places.{first, each, holdsAt, firstFrom, foundInside}
+use Rattle.rules.specs.Places.{first, each}
 use Rattle.rules.specs.Faults.{Log, log, logged}
 use Rattle.rules.specs.Scopes.{pass1At, pass1}
 use Rattle.rules.specs.FieldIdentifiers.{pass3At, pass3}
@@ -23,7 +22,6 @@ use Rattle.rules.specs.Replies.{laterFaults, faultsOf, findsFaults}
 use Rattle.rules.specs.declared.Record.{Record}
 use Rattle.rules.specs.declared.Fault.{Fault}
 use Rattle.rules.specs.declared.Tally.{Tally}
-use Rattle.rules.specs.declared.Target.{Target}
 use Rattle.rules.specs.declared.Found.the-variants.{At}
 use Rattle.rules.specs.DeclIdentifiers.{ordered}
 use Rattle.faults.specs.Notes.{findings, notedAll}
@@ -78,20 +76,6 @@ module _ (t : Tally) (b : List ℕ) (r : Tally) (l : List ℕ) (x : Finding) (fs
       → (log r′ l′ ≡ notedAll (log t b) (fs ++ gs)) × (r′ .total ≤ t .total + 2)
   noted-twice r′ l′ y gs e′ h′ =
       (noted-then (log t b) fs gs (noted-once .0) (e′ ∙ ap (notedAll (log r l)) h′), omega (arith, one-more, ap (λ (z : Log). z .tally .total) e′, noted-total (log r l) y))
-
--- behind the last record there is nothing
-pub none-past : (rs : List Record) (x : Target) (d : ℕ) → length rs ≤ d → false ≡ foundInside rs (firstFrom rs x (d + 1))
-unfolding first foundInside
-none-past rs x d h =
-    let z : length rs - (d + 1) ≡ 0 = omega arith in
-    sym (ap (λ (k : ℕ). foundInside rs (first (holdsAt rs x) (d + 1) k)) z)
-
-both : (a b : Bool) → (a && b) ≡ true → (a ≡ true) × (b ≡ true)
-both true b e = (refl, e)
-both false b e = let z : _≡_ {A = ℕ} 0 1 = cc in absurd (omega arith)
-
-pub size-kind : (k : ℕ) → isSize k ≡ true → (22 ≤ k) × (k ≤ 24)
-size-kind k e = let s = both (leb 22 k) (leb k 24) e in (leb-true 22 k (s .0), leb-true k 24 (s .1))
 
 -- pass k, one of 3 to 9, has run
 module _ (rs : List Record) (b : List ℕ) (k : ℕ) (h : 3 ≤ k) (t : Tally) (l : List ℕ) (e : log t l ≡ logged b (passFaults k rs)) where

@@ -1,13 +1,4 @@
 // The passes that find faults place by place: pass 1, and passes 3 to 9 on the listed order.
-mod array_fields;
-mod field_identifiers;
-mod fixed_fields;
-mod members;
-mod padding_fields;
-mod payload_fields;
-mod scope;
-mod size_fields;
-
 use faults::Finding;
 use repeats::Key;
 use rules::Tally;
@@ -29,12 +20,12 @@ fn finding(pass: u8, t: &[u8], names: &[u8], p: usize) -> Finding
     ensures { λ r. ⌜ findings r ≡ passAt pass (decode (now (t .entry))) p ⌝ }
 {
     match pass {
-        1 => scope::at_place(t, p),
-        3 => field_identifiers::at_place(t, names, p),
-        6 => fixed_fields::at_place(t, p),
-        7 => payload_fields::at_place(t, p),
-        8 => array_fields::at_place(t, p),
-        9 => padding_fields::at_place(t, p),
+        1 => passes::scope::at_place(t, p),
+        3 => passes::field_identifiers::at_place(t, names, p),
+        6 => passes::fixed_fields::at_place(t, p),
+        7 => passes::payload_fields::at_place(t, p),
+        8 => passes::array_fields::at_place(t, p),
+        9 => passes::padding_fields::at_place(t, p),
         _ => Finding::Fine,
     }
 }
@@ -59,9 +50,9 @@ fn note_at(
     let once = faults::note_found(
         tally,
         buffer,
-        size_fields::size_again(t, sizes, elements, p),
+        passes::size_fields::size_again(t, sizes, elements, p),
     );
-    faults::note_found(once, buffer, size_fields::size_target(t, p))
+    faults::note_found(once, buffer, passes::size_fields::size_target(t, p))
 }
 
 // All faults of a pass other than 4, with marks for what may not repeat.

@@ -1,0 +1,23 @@
+-- `passes::array_fields::at_place` meets its contract. Assumes nothing.
+use borrow.Author.Needs.{needs}
+use Rattle.rules.specs.ArrayFields.{pass8At}
+use Rattle.passes.proofs.array_fields.at_place.Statement.{statement}
+use Rattle.passes.proofs.array_fields.at_place.Tie as tie
+
+returns : tie.Need-returns
+unfolding pass8At
+returns c =
+    let f = c .before in
+    let i = f .before in
+    let a = i .before .before .before in
+    rw (← a .at .ensures, i .if1 .taken, ← f .first-size .ensures) (c .redundant-size .ensures)
+
+returns-2 : tie.Need-returns-2
+unfolding pass8At
+returns-2 c =
+    let a = c .before .before .before in
+    rw (← a .at .ensures, c .if1 .left)
+
+pub at-place-spec : {M : Type 1} → statement M
+at-place-spec =
+    tie.close (tie.spec (λ c κs. search needs) (λ c κs. search needs) (λ c κs. search needs) returns returns-2)

@@ -1,0 +1,41 @@
+-- `passes::size_fields::size_target` meets its contract. Assumes nothing.
+use borrow.Author.Needs.{needs}
+use native.Mathlib.Omega.{arith}
+use borrow.Author.Tests.{not-true, not-false}
+use mathlib.Core.Path.{sym, _∙_}
+use Rattle.rules.specs.SizeFields.{sizeTarget}
+use Rattle.passes.proofs.Laws.{size-kind}
+use Rattle.passes.proofs.size_fields.size_target.Statement.{statement}
+use Rattle.passes.proofs.size_fields.size_target.Tie as tie
+
+returns : tie.Need-returns
+unfolding sizeTarget
+returns c =
+    let i = c .before in
+    let a = i .before in
+    rw (← a .at .ensures, sym (i .is-size .ensures) ∙ not-true _ (c .if1 .taken))
+
+size-code-requires : tie.Need-size-code-requires
+size-code-requires c κs =
+    let i = c .before .before in
+    let s = i .before in
+    let a = s .before in
+    omega (arith, size-kind (a .at .result .kind) (sym (s .is-size .ensures) ∙ not-false _ (i .if1 .left)))
+
+returns-2 : tie.Need-returns-2
+unfolding sizeTarget
+returns-2 c =
+    let s = c .before in
+    let f = s .before in
+    let m = f .before in
+    let i = m .before in
+    let z = i .before in
+    let a = z .before in
+    rw (← a .at .ensures, sym (z .is-size .ensures) ∙ not-false _ (i .if1 .left), ← s .size-code .ensures, ← m .matching .ensures, ← f .first-within .ensures) (c .misnamed .ensures)
+
+pub size-target-spec : {M : Type 1} → statement M
+size-target-spec =
+    tie.close
+    (tie.spec
+    (λ c κs. search needs) (λ c κs. search needs) returns (λ c κs. search needs) (λ c κs. search needs) size-code-requires
+    (λ c κs. search needs) returns-2)
