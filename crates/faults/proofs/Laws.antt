@@ -1,7 +1,7 @@
 -- Laws of the fault buffer: fault by fault and in closed form. Assumes nothing.
-use Prim.Native.Nat.{ℕ, zero, suc, _+_, _*_, _/_, _<_, _≤_, min}
+use Prim.Native.Nat.{ℕ, _+_, _*_, _/_, _<_, _≤_}
 use lib.ListN.{length, take, drop, length-append, length-take, length-drop}
-use lib.Seq.{take-all, take-append-le, take-at, drop-at, drop-append-add, drop-drop}
+use lib.Seq.{take-all, take-append-le, take-at, drop-append-add, drop-drop}
 use native.Mathlib.Omega.{arith}
 use native.Mathlib.Decide.{decLt}
 use Rattle.rules.specs.Bytes.{bytes}
@@ -15,6 +15,7 @@ use Rattle.rules.specs.Choice.{if_then_else_}
 use Rattle.rules.specs.Places.{each}
 use Rattle.rules.specs.Bytes.{written}
 use Rattle.rules.specs.Faults.{faultBytes, faultsBytes, logged, Log, log}
+use Rattle.store.proofs.Laws.{length-written}
 use Rattle.faults.specs.Notes.{findings, none, noted, notedAll}
 use Rattle.rules.specs.declared.Tally.{Tally}
 use Rattle.faults.specs.declared.Finding.{Finding}
@@ -75,11 +76,6 @@ faults-snoc : (fs : List Fault) (f : Fault) → faultsBytes (fs ++ f ∷ []) ≡
 unfolding faultsBytes
 faults-snoc [] f = append-nil (faultBytes f)
 faults-snoc (g ∷ fs) f = ap (λ (x : List ℕ). faultBytes g ++ x) (faults-snoc fs f) ∙ sym (append-assoc (faultBytes g) (faultsBytes fs) (faultBytes f))
-
-pub length-written : (d : List ℕ) (i : ℕ) (s : List ℕ) → i + length s ≤ length d → length (written d i s) ≡ length d
-length-written d i s h =
-    length-append (take i d ++ s) (drop (i + length s) d)
-    ∙ omega (arith, length-append (take i d) s, length-take i d, length-drop (i + length s) d)
 
 -- a buffer that is filled up to n, and then further
 written-next : (d b s : List ℕ) (n : ℕ) → length d ≡ n → written (d ++ drop n b) n s ≡ d ++ s ++ drop (n + length s) b

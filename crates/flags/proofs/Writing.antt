@@ -1,44 +1,20 @@
 -- Laws of records written one after another. Assumes nothing.
-use Prim.Native.Nat.{ℕ, _+_, _*_, _≤_}
-use mathlib.Core.Path.{_≡_, refl, sym, ap, subst, _∙_}
+use Prim.Native.Nat.{ℕ, _+_, _*_}
+use mathlib.Core.Path.{_≡_, refl, sym, ap, _∙_}
 use mathlib.Core.List.{List, [], _∷_, _++_, append-assoc, append-nil}
 use native.Mathlib.Omega.{arith}
 use native.Mathlib.Nat.{add-zero}
-use lib.ListN.{length, take, drop, length-append, length-take, length-drop, take-append-drop}
-use lib.Seq.{take-at, drop-append-add, drop-drop}
+use lib.ListN.{length, take, length-append, take-append-drop}
 use Rattle.rules.specs.Bytes.{bytes, written}
 use Rattle.rules.specs.Table.{recordBytes, encode}
 use Rattle.rules.specs.declared.Record.{Record}
+use Rattle.store.proofs.Laws.{length-encode, length-written, written-more}
 use Rattle.flags.specs.Appended.{Appended, Room}
-
-length-record : (r : Record) → length (recordBytes r) ≡ 40
-unfolding recordBytes bytes
-length-record r = refl
-
-length-encode : (rs : List Record) → length (encode rs) ≡ 40 * length rs
-unfolding encode
-length-encode [] = refl
-length-encode (r ∷ rs) = length-append (recordBytes r) (encode rs) ∙ omega (arith, length-record r, length-encode rs)
 
 encode-append : (xs ys : List Record) → encode (xs ++ ys) ≡ encode xs ++ encode ys
 unfolding encode
 encode-append [] ys = refl
 encode-append (x ∷ xs) ys = ap (λ (l : List ℕ). recordBytes x ++ l) (encode-append xs ys) ∙ sym (append-assoc (recordBytes x) (encode xs) (encode ys))
-
-length-written : (b : List ℕ) (i : ℕ) (s : List ℕ) → i + length s ≤ length b → length (written b i s) ≡ length b
-length-written b i s h =
-    length-append (take i b ++ s) (drop (i + length s) b)
-    ∙ omega (arith, length-append (take i b) s, length-take i b, length-drop (i + length s) b)
-
-written-more : (b s u : List ℕ) (i : ℕ) → i + length s ≤ length b → written (written b i s) (i + length s) u ≡ written b i (s ++ u)
-written-more b s u i h =
-    let front : length (take i b ++ s) ≡ i + length s = length-append (take i b) s ∙ omega (arith, length-take i b) in
-    let far : i + length s + length u ≡ i + length (s ++ u) = omega (arith, length-append s u) in
-    let past : drop (i + length s + length u) (written b i s) ≡ drop (i + length (s ++ u)) b
-    = subst (λ (k : ℕ). drop (k + length u) (take i b ++ s ++ drop (i + length s) b) ≡ drop (length u) (drop (i + length s) b)) front (drop-append-add (take i b ++ s) (drop (i + length s) b) (length u))
-    ∙ drop-drop (length u) (i + length s) b
-    ∙ ap (λ (k : ℕ). drop k b) far in
-    rw (take-at (take i b ++ s) (drop (i + length s) b) (i + length s) front, past, append-assoc (take i b) s u)
 
 pub appended-none : (b : List ℕ) (c : ℕ) → Appended b c [] b c
 unfolding encode

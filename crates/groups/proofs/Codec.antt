@@ -7,7 +7,7 @@ use lib.ListN.{length}
 use Rattle.rules.specs.Bytes.{numberAt, bytes}
 use Rattle.rules.specs.Table.{recordAt, records, decode, recordBytes, encode}
 use Rattle.rules.specs.declared.Record.{Record}
-use Rattle.groups.proofs.Wholes.{length-encode}
+use Rattle.store.proofs.Laws.{length-encode}
 
 -- each field is a value of its type
 pub record Fits (r : Record) : Type 0 where

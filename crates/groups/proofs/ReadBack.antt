@@ -28,7 +28,8 @@ use Rattle.table.proofs.Laws.{at-decode}
 use Rattle.groups.specs.declared.Inlining.{Inlining}
 use Rattle.groups.specs.declared.Inlining.the-variants as inlinings
 use Rattle.groups.specs.Inlinings.{byUnfit, inlining, inliningBytes}
-use Rattle.groups.proofs.Wholes.{length-encode, length-records}
+use Rattle.store.proofs.Laws.{length-encode}
+use Rattle.groups.proofs.Wholes.{length-records}
 use Rattle.groups.proofs.Codec.{Fits, AllFit, none, more, decode-encode}
 
 -- ---- the records of a table are values of their types

@@ -1,26 +1,21 @@
 -- The inlined table as bytes, the loop that writes it, and the answer. Assumes nothing.
-use Prim.Native.Nat.{ℕ, zero, suc, _+_, _-_, _*_, _<_, _≤_, min}
-use mathlib.Core.Path.{_≡_, refl, sym, ap, subst, _∙_}
-use mathlib.Core.List.{List, [], _∷_, _++_, map, append-assoc, append-nil}
+use Prim.Native.Nat.{ℕ, suc, _+_, _-_, _*_, _<_, _≤_}
+use mathlib.Core.Path.{_≡_, refl, sym, ap, _∙_}
+use mathlib.Core.List.{List, [], _∷_, _++_, map, append-nil}
 use mathlib.Core.Bool.{Bool, true, false, not}
 use native.Mathlib.Omega.{arith}
 use native.Mathlib.Nat.{zero-add, add-zero}
-use lib.Dec.{ltb}
 use borrow.Author.Tests.{lt-ltb, le-ltb}
-use lib.ListN.{length, getD, take, drop, length-append, length-take, take-append-drop}
-use lib.Seq.{take-at, drop-append-add, drop-drop}
-use Rattle.rules.specs.Choice.{if_then_else_}
+use lib.ListN.{length, getD, take, drop, take-append-drop}
 use Rattle.rules.specs.Bytes.{bytes, written}
 use Rattle.rules.specs.Table.{at, blank, recordBytes, encode, fieldKey}
 use Rattle.rules.specs.Places.{first, each}
 use Rattle.rules.specs.InlineGroups.{isKept, kept, expand, inlinedAt, inlined, recordOf, unfitAt, firstUnfit}
 use Rattle.rules.specs.declared.Record.{Record}
 use Rattle.rules.specs.declared.Inlined.{Inlined}
-use Rattle.rules.specs.declared.Found.{Found}
-use Rattle.rules.specs.declared.Found.the-variants.{At, Nothing}
 use Rattle.rules.specs.declared.FieldKey.{FieldKey}
 use Rattle.table.proofs.Laws.{each-more}
-use Rattle.faults.proofs.Laws.{length-written}
+use Rattle.store.proofs.Laws.{length-record, length-written, written-more}
 use Rattle.order.specs.GroupsFirst.{GroupsFirst}
 use Rattle.groups.specs.declared.Progress.{Progress}
 use Rattle.groups.specs.declared.Fit.{Fit}
@@ -35,29 +30,9 @@ use Rattle.groups.proofs.Measures.{total-next, total-other, total-rises
 
 -- ---- bytes
 
-length-record : (r : Record) → length (recordBytes r) ≡ 40
-unfolding recordBytes bytes
-length-record r = refl
-
-pub length-encode : (rs : List Record) → length (encode rs) ≡ 40 * length rs
-unfolding encode
-length-encode [] = refl
-length-encode (r ∷ rs) = length-append (recordBytes r) (encode rs) ∙ omega (arith, length-record r, length-encode rs)
-
 pub length-records : (xs : List Inlined) → length (map recordOf xs) ≡ length xs
 length-records [] = refl
 length-records (x ∷ xs) = ap suc (length-records xs)
-
--- what is written directly after what was written
-written-more : (b s u : List ℕ) (i : ℕ) → i + length s ≤ length b → written (written b i s) (i + length s) u ≡ written b i (s ++ u)
-written-more b s u i h =
-    let front : length (take i b ++ s) ≡ i + length s = length-append (take i b) s ∙ omega (arith, length-take i b) in
-    let far : i + length s + length u ≡ i + length (s ++ u) = omega (arith, length-append s u) in
-    let past : drop (i + length s + length u) (written b i s) ≡ drop (i + length (s ++ u)) b =
-    subst (λ (k : ℕ). drop (k + length u) (take i b ++ s ++ drop (i + length s) b) ≡ drop (length u) (drop (i + length s) b)) front (drop-append-add (take i b ++ s) (drop (i + length s) b) (length u))
-    ∙ drop-drop (length u) (i + length s) b
-    ∙ ap (λ (k : ℕ). drop k b) far in
-    rw (take-at (take i b ++ s) (drop (i + length s) b) (i + length s) front, past, append-assoc (take i b) s u)
 
 -- the first record that is not fit tells its key
 unfoldable fitOf : Fit → List Inlined → Fit

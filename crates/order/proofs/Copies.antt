@@ -16,7 +16,7 @@ use Rattle.rules.specs.declared.Found.{Found}
 use Rattle.rules.specs.declared.Found.the-variants.{At, Nothing}
 use Rattle.rules.specs.declared.Target.the-variants.{Decl}
 use Rattle.table.proofs.Laws.{length-decode, first-in}
-use Rattle.faults.proofs.Laws.{length-written}
+use Rattle.store.proofs.Laws.{length-written}
 use Rattle.order.specs.Contract.{declBytes, allBytes, Placed}
 use Rattle.order.proofs.Sorted.{mem-at}
 

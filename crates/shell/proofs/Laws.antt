@@ -20,7 +20,7 @@ use Rattle.rules.specs.declared.Layout.{Layout}
 use Rattle.rules.specs.declared.Layout.the-variants as layouts
 use Rattle.rules.specs.declared.Reply.{Reply}
 use Rattle.rules.specs.declared.Reply.the-variants.{Uneven, TooLong}
-use Rattle.faults.proofs.Laws.{length-written}
+use Rattle.store.proofs.Laws.{length-written}
 use Rattle.table.proofs.Laws.{length-decode}
 use Rattle.lines.specs.Appended.{Whole}
 use Rattle.lines.proofs.Answers.{answer-whole}
