@@ -26,7 +26,8 @@ use Rattle.order.specs.GroupsFirst.{GroupsFirst}
 use Rattle.groups.specs.declared.Progress.{Progress}
 use Rattle.groups.specs.Sizes.{Resolved, sizeAt, fieldsSize, sizeFrom, Sized}
 use Rattle.groups.specs.Outputs.{Output, output, added, addedAll, Ready, Expanded}
-use Rattle.groups.proofs.Steps.{left-suc, left-none, never, both-true, at-inj, named-in, named-is-decl, group-before}
+use Rattle.table.proofs.Searches.{false-true, and-true, at-inj}
+use Rattle.groups.proofs.Steps.{left-suc, left-none, named-in, named-declares, group-before}
 
 -- what the records from p on become
 abbrev pub fieldsFrom : (List ℕ → ℕ → List Inlined) → List Record → List ℕ → ℕ → List Inlined
@@ -37,7 +38,7 @@ pub min-sum : (a b c d : ℕ) → min 1601 a ≡ min 1601 c → min 1601 b ≡ m
 min-sum a b c d h g = omega arith
 
 decl-below : (k : ℕ) → isDecl k ≡ true → k ≤ 7
-decl-below k e = leb-true k 7 (both-true (leb 1 k) (leb k 7) e .1)
+decl-below k e = leb-true k 7 (and-true (leb 1 k) (leb k 7) e .1)
 
 -- ---- declarations and the places after them
 
@@ -58,7 +59,7 @@ module _ (rs : List Record) where
     where
       differ : isDecl (at rs e .kind) ≡ false → e ≤ d → Dec (e < d) → suc e ≤ d
       differ i y (yes z) = z
-      differ i y (no z) = let w : e ≡ d = omega arith in absurd (never (sym i ∙ rw w h))
+      differ i y (no z) = let w : e ≡ d = omega arith in false-true (sym i ∙ rw w h)
 
       go : ((y : ℕ) → nearest (holdsAt rs Decl) e ≡ At y → y < d → e ≤ d) → (b : Bool) → isDecl (at rs e .kind) ≡ b → suc e ≤ d
       go r true i = let z : e ≡ x = at-inj (rw (nearest, i) at q) in omega arith
@@ -159,7 +160,7 @@ module _ (rs : List Record) (targets sizes : List ℕ) (t : GroupsFirst rs) (y :
     group-size env p l i h =
         let f = y .right p l i in
         let b = named-in rs (at rs p .second) f in
-        let j = named-is-decl rs (at rs p .second) f in
+        let j = named-declares rs (at rs p .second) f in
         let s = size-saturated (getD targets p 0) b j in
         rw f (ok env (getD targets p 0) (group-before rs t p l i h f) b j ∙ omega arith)
 
@@ -310,7 +311,7 @@ module _ {rs : List Record} {targets sizes : List ℕ} {d : ℕ} {env₀ : List 
             let q = size-found in
             let v = before in
             let none : (k : ℕ) → d ≤ k → inlinedField (expand rs k) rs (take n env₀) p ≡ [] =
-            λ k h. field-group (expand rs k) (take n env₀) ∙ expand-none rs targets sizes (y .groups) (y .resolved) (y .sized) k (take n env₀ ++ ownConstraints rs p) g (omega arith) (named-in rs (at rs p .second) found) (named-is-decl rs (at rs p .second) found) z in
+            λ k h. field-group (expand rs k) (take n env₀) ∙ expand-none rs targets sizes (y .groups) (y .resolved) (y .sized) k (take n env₀ ++ ownConstraints rs p) g (omega arith) (named-in rs (at rs p .second) found) (named-declares rs (at rs p .second) found) z in
             walk-next (λ k h. sym (rw (none k h))) (omega arith) refl refl refl
 
         -- its fields are written
@@ -324,7 +325,7 @@ module _ {rs : List Record} {targets sizes : List ℕ} {d : ℕ} {env₀ : List 
               groups = y .groups;
               resolved = y .resolved;
               sized = y .sized;
-              decl = (named-in rs (at rs p .second) found, named-is-decl rs (at rs p .second) found);
+              decl = (named-in rs (at rs p .second) found, named-declares rs (at rs p .second) found);
               stack = (let h = own-fits in let q = pm .0 in omega arith);
               spare = λ x i h. (let j = here-past rs d (y .decl .1) x h before in let q = pm .0 in let r = own-fits in let v = w .past in omega arith);
               room = (let h = size-left in let q = size-found in omega arith);

@@ -20,7 +20,8 @@ use Rattle.rules.specs.declared.Found.the-variants.{At, Nothing}
 use Rattle.rules.specs.declared.Target.the-variants.{Decl}
 use Rattle.order.specs.GroupsFirst.{GroupsFirst}
 use Rattle.groups.specs.Sizes.{Resolved, sizeHere, sizeAt, fieldsSize, sizeFrom, totalSize, Sized}
-use Rattle.groups.proofs.Steps.{never, both-true, named-in, group-before}
+use Rattle.table.proofs.Searches.{false-true, and-true}
+use Rattle.groups.proofs.Steps.{named-in, group-before}
 use Rattle.groups.proofs.Expands.{here-start, here-next, after-start, after-next, size-next, size-end, Ends, Seen, seen-flag, expand-size, min-sum}
 
 -- ---- the size of one declaration: what is counted and what is left make the whole
@@ -93,7 +94,7 @@ module _ {rs : List Record} {targets sizes : List ℕ} {q : ℕ} (w : Sized rs t
     where
       go : (d : ℕ) → isDecl (at rs d .kind) ≡ true → Dec (d < q) → d < q + 1 → getD sizes d 0 ≡ min 1601 (sizeFrom targets sizes rs (d + 1))
       go d i (yes z) h = w .right d z i
-      go d i (no z) h = let e : d ≡ q = omega arith in absurd (never (sym (rw e o) ∙ i))
+      go d i (no z) h = let e : d ≡ q = omega arith in false-true (sym (rw e o) ∙ i)
 
   pub sized-next : {v s : ℕ} → GroupsFirst rs → Resolved rs targets (length rs) → q < length rs → isDecl (at rs q .kind) ≡ true → v ≡ min 1601 s → s ≡ sizeFrom targets sizes rs (q + 1) → Sized rs targets (set sizes q v) (q + 1)
   sized-next {v} {s} t y l i e f = record { long = (let a = length-set sizes q v in let b = w .long in omega arith); right = λ d h j. go d j (decLt d q) h }
@@ -129,7 +130,7 @@ total-rises sizes rs d (suc n) h = go (λ z. total-rises sizes rs d n z) (decLt 
     go r (no z) = let y = r (omega arith) in omega arith
 
 pub kept-decl : (k : ℕ) → isKept k ≡ true → isDecl k ≡ true
-kept-decl k i = both-true (isDecl k) (not (eqb k 6)) i .0
+kept-decl k i = and-true (isDecl k) (not (eqb k 6)) i .0
 
 module _ (rs : List Record) (targets sizes : List ℕ) (t : GroupsFirst rs) (y : Resolved rs targets (length rs)) (z : Sized rs targets sizes (length rs)) where
   -- the total is the length of the inlined table, as far as 1,601

@@ -21,6 +21,7 @@ use Rattle.rules.specs.declared.Found.{Found}
 use Rattle.rules.specs.declared.Found.the-variants.{At, Nothing}
 use Rattle.rules.specs.declared.Target.the-variants.{Decl, DeclNamed}
 use Rattle.table.proofs.Laws.{first-in}
+use Rattle.table.proofs.Searches.{false-true, and-true, at-inj, first-is, named-is-decl}
 use Rattle.order.specs.GroupsFirst.{Earlier, GroupsFirst}
 use Rattle.groups.specs.Sizes.{Resolved}
 use Rattle.groups.specs.Outputs.{constraintsFrom}
@@ -33,16 +34,6 @@ left-suc n p h = omega arith
 
 pub left-none : (n p : ℕ) → n ≤ p → n - p ≡ zero
 left-none n p h = omega arith
-
-pub never : _≡_ {A = Bool} false true → ⊥
-never q = let z : _≡_ {A = ℕ} 0 1 = cc in omega arith
-
-pub both-true : (a b : Bool) → (a && b) ≡ true → (a ≡ true) × (b ≡ true)
-both-true true b e = (refl, e)
-both-true false b e = absurd (never e)
-
-pub at-inj : {p q : ℕ} → At p ≡ At q → p ≡ q
-at-inj e = cc
 
 -- ---- the constraints of a field
 
@@ -130,29 +121,15 @@ module _ (rs : List Record) (env : List ℕ) (r : Record) where
 
 -- ---- the declaration that a group field names
 
-first-holds : (f : ℕ → Bool) (p k q : ℕ) → first f p k ≡ At q → f q ≡ true
-unfolding first
-first-holds f p zero q e = let z : _≡_ {A = ℕ} 0 1 = cc in absurd (omega arith)
-first-holds f p (suc k) q e = go (first-holds f (p + 1) k q) (f p) refl
-  where
-    go : (first f (p + 1) k ≡ At q → f q ≡ true) → (b : Bool) → f p ≡ b → f q ≡ true
-    go r true h = let z : p ≡ q = at-inj (rw (first, h) at e) in rw z at h
-    go r false h = r (rw (first, h) at e)
-
-named-decl : (k : ℕ) → isNamedDecl k ≡ true → isDecl k ≡ true
-named-decl k h =
-    let b = both-true (leb 1 k) (leb k 6) h in
-    rw (b .0, le-leb k 7 (let z = leb-true k 6 (b .1) in omega arith))
-
 module _ (rs : List Record) where
   pub named-in : (x : ℕ) {g : ℕ} → declNamed rs x ≡ At g → g < length rs
   unfolding declNamed
   named-in x {g} e = first-in (holdsAt rs (DeclNamed x)) (length rs) 0 g e .1
 
-  pub named-is-decl : (x : ℕ) {g : ℕ} → declNamed rs x ≡ At g → isDecl (at rs g .kind) ≡ true
+  pub named-declares : (x : ℕ) {g : ℕ} → declNamed rs x ≡ At g → isDecl (at rs g .kind) ≡ true
   unfolding declNamed
-  named-is-decl x {g} e =
-      named-decl (at rs g .kind) (both-true (isNamedDecl (at rs g .kind)) (eqb (at rs g .name) x) (first-holds (holdsAt rs (DeclNamed x)) 0 (length rs - 0) g e) .0)
+  named-declares x {g} e =
+      named-is-decl (at rs g .kind) (and-true (isNamedDecl (at rs g .kind)) (eqb (at rs g .name) x) (first-is (holdsAt rs (DeclNamed x)) 0 (length rs - 0) g e) .0)
 
   -- it stands before the declaration that holds the field
   pub group-before : GroupsFirst rs → (p : ℕ) {d g : ℕ} → p < length rs → is kind.groupField (at rs p) ≡ true → nearest (holdsAt rs Decl) p ≡ At d → declNamed rs (at rs p .second) ≡ At g → g < d

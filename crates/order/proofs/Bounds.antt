@@ -11,16 +11,13 @@ use lib.ListN.{length, getD, set, length-append, length-set}
 use Rattle.rules.specs.declared.Reference.{Reference}
 use Rattle.rules.specs.declared.Reference.the-variants.{Nowhere, Wrong, Follow}
 use Rattle.rules.specs.Visits.{State, markOf, opened, noted, resolve, walk, enter, visit}
+use Rattle.table.proofs.Searches.{and-true}
 use Rattle.order.specs.Reachability.{unvisitedCount}
 use Rattle.rules.specs.Kinds.{isDecl}
 use Rattle.rules.specs.Table.{at}
 use Rattle.rules.specs.DeclIdentifiers.{fieldReference, fieldReferences, references}
 use Rattle.rules.specs.declared.Record.{Record}
 use Rattle.order.specs.Contract.{memberAt}
-
-pub and-true : (b c : Bool) → b && c ≡ true → (b ≡ true) × (c ≡ true)
-and-true true c e = (refl, e)
-and-true false c e = let z : _≡_ {A = ℕ} 0 1 = cc in absurd (omega arith)
 
 pub not-true : (b : Bool) → not b ≡ true → b ≡ false
 not-true true e = let z : _≡_ {A = ℕ} 0 1 = cc in absurd (omega arith)

@@ -22,37 +22,12 @@ use Rattle.rules.specs.declared.Found.the-variants.{At}
 use Rattle.rules.specs.declared.Target.the-variants.{Decl, DeclNamed}
 use Rattle.table.proofs.Laws.{first-in}
 use Rattle.order.specs.GroupsFirst.{Earlier, GroupsFirst}
-use Rattle.order.proofs.Bounds.{and-true}
+use Rattle.table.proofs.Searches.{false-true, and-true, named-is-decl, first-is, first-some, first-only, nearest-is}
 use Rattle.order.proofs.Sorted.{mem-at}
-use Rattle.order.proofs.Promise.{false-true, first-is, first-some, promise}
+use Rattle.order.proofs.Promise.{promise}
 use Rattle.order.proofs.Copies.{decl-length, count-fits}
 use Rattle.order.proofs.Room.{named-decl}
 use Rattle.order.proofs.Stretches.{members-free, decl-at, decl-members}
-
--- ---- searches by what they find
-
-nearest-is : (f : ℕ → Bool) (p q : ℕ) → q < p → f q ≡ true → ((i : ℕ) → q < i → i < p → f i ≡ false) → nearest f p ≡ At q
-unfolding nearest
-nearest-is f zero q l h n = absurd (omega arith)
-nearest-is f (suc p) q l h n = go (λ k. nearest-is f p q k h (λ i a b. n i a (omega arith))) (ℕ-discrete q p)
-  where
-    go : (q < p → nearest f p ≡ At q) → Dec (q ≡ p) → nearest f (suc p) ≡ At q
-    go ih (yes e) = let z : f p ≡ true = ap f (sym e) ∙ h in rw (nearest, z, e)
-    go ih (no e) =
-        let z : f p ≡ false = n p (omega arith) (omega arith) in
-        let y : nearest f (suc p) ≡ nearest f p = rw (nearest, z) in
-        y ∙ ih (omega arith)
-
--- the only place below n at which the test holds
-first-only : (f : ℕ → Bool) (n q : ℕ) → q < n → f q ≡ true → ((i : ℕ) → i < n → f i ≡ true → i ≡ q) → first f 0 (n - 0) ≡ At q
-first-only f n q l h u =
-    let w = first-some f 0 (n - 0) q (omega arith) (omega arith) h in
-    w .1 ∙ ap At (u (w .0) (first-in f n 0 (w .0) (w .1) .1) (first-is f 0 (n - 0) (w .0) (w .1)))
-
-named-is-decl : (k : ℕ) → isNamedDecl k ≡ true → isDecl k ≡ true
-named-is-decl k h =
-    let b = and-true (leb 1 k) (leb k 6) h in
-    rw (b .0, le-leb k 7 (let z = leb-true k 6 (b .1) in omega arith))
 
 -- ---- the places of the listed records
 

@@ -18,7 +18,7 @@ use Rattle.rules.specs.declared.Fault.{Fault}
 use Rattle.rules.specs.declared.Found.{Found}
 use Rattle.rules.specs.declared.Found.the-variants.{At, Nothing}
 use Rattle.rules.specs.declared.Target.the-variants.{DeclNamed}
-use Rattle.order.proofs.Promise.{false-true, nothing-at}
+use Rattle.table.proofs.Searches.{false-true, nearest-none}
 
 each-none : (f : ℕ → List Fault) (n p : ℕ) → each f n ≡ [] → p < n → length (f p) ≡ 0
 unfolding each
@@ -35,16 +35,6 @@ each-none f (suc n) p e l = go (λ h y. each-none f n p h y) (decLt p n)
     go : (each f n ≡ [] → p < n → length (f p) ≡ 0) → Dec (p < n) → length (f p) ≡ 0
     go ih (yes h) = ih (empty (each f n) (omega (arith, long))) h
     go ih (no h) = let z : p ≡ n = omega arith in ap (λ (i : ℕ). length (f i)) z ∙ omega (arith, long)
-
-nearest-none : (f : ℕ → Bool) (p q : ℕ) → nearest f p ≡ Nothing → q < p → f q ≡ false
-unfolding nearest
-nearest-none f zero q e l = absurd (omega arith)
-nearest-none f (suc p) q e l = go (λ k h. nearest-none f p q k h) (f p) refl (decLt q p)
-  where
-    go : (nearest f p ≡ Nothing → q < p → f q ≡ false) → (b : Bool) → f p ≡ b → Dec (q < p) → f q ≡ false
-    go ih true h d = let z : At p ≡ Nothing = rw (nearest, h) at e in nothing-at (sym z)
-    go ih false h (yes y) = ih (rw (nearest, h) at e) y
-    go ih false h (no y) = let z : q ≡ p = omega arith in ap f z ∙ h
 
 module _ (rs : List Record) (clean : pass1 rs ≡ []) where
   -- no declaration before p has its name

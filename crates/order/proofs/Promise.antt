@@ -27,48 +27,17 @@ use Rattle.rules.specs.declared.Reference.{Reference}
 use Rattle.rules.specs.declared.Reference.the-variants.{Nowhere, Wrong, Follow}
 use Rattle.table.proofs.Laws.{first-in}
 use Rattle.order.specs.Reachability.{Reaches, one, step, Faultless}
-use Rattle.order.proofs.Bounds.{and-true}
+use Rattle.table.proofs.Searches.{false-true, and-true, at-inj, nothing-at, first-is, first-some}
 use Rattle.order.proofs.Accepts.{accepted}
 use Rattle.order.proofs.Sorted.{Ordered, in-order, topological, faultless, follow-inj, follow-wrong, follow-nowhere, wrong-nowhere}
 
 -- ---- tests
-
-pub false-true : {A : Type 0} → false ≡ true → A
-false-true q = let z : _≡_ {A = ℕ} 0 1 = cc in absurd (omega arith)
 
 or-false : (b c : Bool) → b || c ≡ false → (b ≡ false) × (c ≡ false)
 or-false true c e = false-true (sym e)
 or-false false c e = (refl, e)
 
 -- ---- the search for a name
-
-pub at-inj : {p q : ℕ} → At p ≡ At q → p ≡ q
-at-inj e = cc
-
-pub nothing-at : {A : Type 0} {q : ℕ} → Nothing ≡ At q → A
-nothing-at e = let z : _≡_ {A = ℕ} 0 1 = cc in absurd (omega arith)
-
-pub first-is : (f : ℕ → Bool) (p k q : ℕ) → first f p k ≡ At q → f q ≡ true
-unfolding first
-first-is f p zero q e = nothing-at e
-first-is f p (suc k) q e = go (first-is f (p + 1) k q) (f p) refl
-  where
-    go : (first f (p + 1) k ≡ At q → f q ≡ true) → (b : Bool) → f p ≡ b → f q ≡ true
-    go r true h = ap f (sym (at-inj (rw (first, h) at e))) ∙ h
-    go r false h = r (rw (first, h) at e)
-
-pub first-some : (f : ℕ → Bool) (p k e : ℕ) → p ≤ e → e < p + k → f e ≡ true → (q : ℕ) × (first f p k ≡ At q)
-unfolding first
-first-some f p zero e a b n = absurd (omega arith)
-first-some f p (suc k) e a b n = go (λ c. first-some f (p + 1) k e c (omega arith) n) (f p) refl
-  where
-    go : (p + 1 ≤ e → (q : ℕ) × (first f (p + 1) k ≡ At q)) → (b : Bool) → f p ≡ b → (q : ℕ) × (first f p (suc k) ≡ At q)
-    go r true h = (p, rw (first, h))
-    go r false h =
-        let ne : ¬ (p ≡ e) = λ y. false-true (sym h ∙ ap f y ∙ n) in
-        let w : (q : ℕ) × (first f (p + 1) k ≡ At q) = r (omega arith) in
-        let z : first f p (suc k) ≡ first f (p + 1) k = rw (first, h) in
-        (w .0, z ∙ w .1)
 
 module _ (rs : List Record) where
   found : (x e : ℕ) → declNamed rs x ≡ At e → Named rs x e

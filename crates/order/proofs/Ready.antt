@@ -31,7 +31,8 @@ use Rattle.table.proofs.Laws.{first-in}
 use Rattle.order.specs.declared.Progress.{Progress}
 use Rattle.order.specs.Reachability.{unvisitedCount}
 use Rattle.order.specs.Contract.{memberAt, Within, Held, Ready, Visited, Walked}
-use Rattle.order.proofs.Bounds.{Bounds, and-true, unvisited-opened, getD-any, resolve-bounds, walk-bounds, visit-bounds, fields-one, fields-none, fields-length, references-length}
+use Rattle.table.proofs.Searches.{and-true}
+use Rattle.order.proofs.Bounds.{Bounds, unvisited-opened, getD-any, resolve-bounds, walk-bounds, visit-bounds, fields-one, fields-none, fields-length, references-length}
 
 -- ---- how each step of the code changes the state that the slices hold
 

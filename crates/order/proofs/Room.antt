@@ -20,7 +20,7 @@ use Rattle.rules.specs.declared.Found.the-variants.{At, Nothing}
 use Rattle.rules.specs.declared.Target.the-variants.{Decl}
 use Rattle.rules.specs.declared.Reference.{Reference}
 use Rattle.table.proofs.Laws.{first-in}
-use Rattle.order.proofs.Bounds.{and-true}
+use Rattle.table.proofs.Searches.{and-true}
 use Rattle.order.proofs.Sorted.{Ordered, none, more}
 use Rattle.order.proofs.Promise.{listed-declared, listed-in-order}
 use Rattle.order.proofs.Copies.{decl-length, records-snoc}

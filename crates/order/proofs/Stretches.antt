@@ -17,27 +17,8 @@ use Rattle.rules.specs.declared.Record.{Record}
 use Rattle.rules.specs.declared.Found.{Found}
 use Rattle.rules.specs.declared.Found.the-variants.{At, Nothing}
 use Rattle.rules.specs.declared.Target.the-variants.{Decl}
-use Rattle.order.proofs.Promise.{at-inj, nothing-at}
+use Rattle.table.proofs.Searches.{first-before, first-none}
 use Rattle.order.proofs.Copies.{count-to, count-rest, decl-length}
-
--- the test fails below what a search finds, and everywhere if it finds nothing
-pub first-before : (f : ℕ → Bool) (p k q i : ℕ) → first f p k ≡ At q → p ≤ i → i < q → f i ≡ false
-unfolding first
-first-before f p zero q i e a b = nothing-at e
-first-before f p (suc k) q i e a b = go (λ r c. first-before f (p + 1) k q i r c b) (f p) refl
-  where
-    go : (first f (p + 1) k ≡ At q → p + 1 ≤ i → f i ≡ false) → (c : Bool) → f p ≡ c → f i ≡ false
-    go ih true h = let z : p ≡ q = at-inj (rw (first, h) at e) in absurd (omega arith)
-    go ih false h = ⊎-elim (λ z. ap f (sym z) ∙ h) (λ z. ih (rw (first, h) at e) (omega arith)) (eq-or-lt-of-le a)
-
-pub first-none : (f : ℕ → Bool) (p k i : ℕ) → first f p k ≡ Nothing → p ≤ i → i < p + k → f i ≡ false
-unfolding first
-first-none f p zero i e a b = absurd (omega arith)
-first-none f p (suc k) i e a b = go (λ r c. first-none f (p + 1) k i r c (omega arith)) (f p) refl
-  where
-    go : (first f (p + 1) k ≡ Nothing → p + 1 ≤ i → f i ≡ false) → (c : Bool) → f p ≡ c → f i ≡ false
-    go ih true h = let z : At p ≡ Nothing = rw (first, h) at e in nothing-at (sym z)
-    go ih false h = ⊎-elim (λ z. ap f (sym z) ∙ h) (λ z. ih (rw (first, h) at e) (omega arith)) (eq-or-lt-of-le a)
 
 module _ (rs : List Record) (d : ℕ) (l : d < length rs) where
   -- no declaration stands among the members

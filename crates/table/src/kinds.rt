@@ -1,8 +1,8 @@
 // Groups of kinds, and what a search looks for.
-use rules::Record;
 use rules::Target;
 ghost use mathlib.Core.Path.{_≡_};
 ghost use Rattle.rules.specs.Kinds.{isDecl, isNamedDecl, isPacketOrStruct, holdsFields, isField, isNamedField, isSize, isSizeOrCount, isPayload, isTag, isValue};
+ghost use Rattle.rules.specs.Table.{decode, at};
 ghost use Rattle.rules.specs.Places.{isFieldNamed, holds};
 
 pub fn is_decl(k: u8) -> bool
@@ -71,27 +71,30 @@ pub fn is_value(k: u8) -> bool
     (k == 40) | (k == 42)
 }
 
-// Whether r is what the search looks for.
-pub fn holds(x: Target, r: Record) -> bool
-    ensures { λ b. ⌜ b ≡ holds x r ⌝ }
+// Whether the record at p is what the search looks for. Only what the search needs of the record is read.
+pub fn holds(t: &[u8], x: Target, p: usize) -> bool
+    ensures { λ b. ⌜ b ≡ holds x (at (decode (now (t .entry))) p) ⌝ }
 {
-    let k = r.kind;
+    let k = crate::kind(t, p);
     let decl = (1 <= k) & (k <= 7);
     let named = (30 <= k) & (k <= 33);
     match x {
         Target::Decl => decl,
-        Target::DeclNamed(n) => ((1 <= k) & (k <= 6)) & (r.name == n),
+        Target::DeclNamed(n) => ((1 <= k) & (k <= 6)) & (crate::name(t, p) == n),
         Target::FieldOrDecl => decl | ((20 <= k) & (k <= 34)),
-        Target::NameOrDecl(n) => decl | (named & (r.name == n)),
-        Target::SizeOrDecl(n) => decl | (((22 <= k) & (k <= 23)) & (r.second == n)),
-        Target::ElementSizeOrDecl(n) => decl | ((k == 24) & (r.second == n)),
+        Target::NameOrDecl(n) => decl | (named & (crate::name(t, p) == n)),
+        Target::SizeOrDecl(n) => decl | (((22 <= k) & (k <= 23)) & (crate::second(t, p) == n)),
+        Target::ElementSizeOrDecl(n) => decl | ((k == 24) & (crate::second(t, p) == n)),
         Target::SizedOrDecl(n) => {
-            decl | ((named & (r.name == n)) | (((k == 26) & (n == 1)) | ((k == 25) & (n == 2))))
+            let sized = ((k == 26) & (n == 1)) | ((k == 25) & (n == 2));
+            decl | ((named & (crate::name(t, p) == n)) | sized)
         }
         Target::PayloadOrDecl => decl | ((25 <= k) & (k <= 26)),
-        Target::TagOrDecl(n) => decl | (((40 <= k) & (k <= 43)) & (r.name == n)),
-        Target::OuterTagOrDecl(n) => decl | (((k == 40) | ((k == 41) | (k == 43))) & (r.name == n)),
-        Target::ValueOrDecl(v) => decl | (((k == 40) | (k == 42)) & (r.one == v)),
+        Target::TagOrDecl(n) => decl | (((40 <= k) & (k <= 43)) & (crate::name(t, p) == n)),
+        Target::OuterTagOrDecl(n) => {
+            decl | (((k == 40) | ((k == 41) | (k == 43))) & (crate::name(t, p) == n))
+        }
+        Target::ValueOrDecl(v) => decl | (((k == 40) | (k == 42)) & (crate::one(t, p) == v)),
         Target::DefaultOrDecl => decl | (k == 43),
         Target::Range => k == 41,
     }

@@ -127,3 +127,14 @@ pub fn second(t: &[u8], p: usize) -> u16
     }
     0
 }
+
+// The first number at any place: 0 past the end.
+pub fn one(t: &[u8], p: usize) -> u64
+    ensures { λ r. ⌜ r ≡ at (decode (now (t .entry))) p .one ⌝ }
+{
+    if p < count(t) {
+        let i = base(t, p);
+        return number8(t, i + 8);
+    }
+    0
+}

@@ -14,8 +14,7 @@ pub fn nearest(t: &[u8], x: Target, p: usize) -> Found
     let mut i = p;
     while 0 < i {
         let q = i - 1;
-        let r = crate::at(t, q);
-        if holds(x, r) {
+        if holds(t, x, q) {
             return Found::At(q);
         }
         i = q;
@@ -30,8 +29,7 @@ pub fn first(t: &[u8], x: Target, a: usize) -> Found
     let n = crate::count(t);
     let mut i = a;
     while i < n {
-        let r = crate::record(t, i);
-        if holds(x, r) {
+        if holds(t, x, i) {
             return Found::At(i);
         }
         i += 1;

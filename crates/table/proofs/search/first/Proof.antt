@@ -20,16 +20,14 @@ abbrev μ-loop : tie.MeasureT-loop
 returns : tie.Need-returns Inv-loop μ-loop
 returns c =
     let h = c .before in
-    let r = h .before in
-    let l = r .before .before .loop in
-    rw (← l .inv .1) (up-hit _ _ _ (l .i) (l .inv .0) (r .before .loop-test .taken) (rw (← r .record .ensures) (sym (h .holds .ensures) ∙ c .if1 .taken)))
+    let l = h .before .before .loop in
+    rw (← l .inv .1) (up-hit _ _ _ (l .i) (l .inv .0) (h .before .loop-test .taken) (sym (h .holds .ensures) ∙ c .if1 .taken))
 
 loop-again : tie.Need-loop-again Inv-loop μ-loop
 loop-again c =
     let h = c .before in
-    let r = h .before in
-    let l = r .before .before .loop in
-    (up-miss _ _ _ (l .i) (l .inv .0) (r .before .loop-test .taken) (rw (← r .record .ensures) (sym (h .holds .ensures) ∙ c .if1 .left)), l .inv .1)
+    let l = h .before .before .loop in
+    (up-miss _ _ _ (l .i) (l .inv .0) (h .before .loop-test .taken) (sym (h .holds .ensures) ∙ c .if1 .left), l .inv .1)
 
 returns-2 : tie.Need-returns-2 Inv-loop μ-loop
 returns-2 c = let l = c .before .loop in rw (← l .inv .1) (up-end _ _ _ (l .i) (l .inv .0) (c .loop-test .left))
@@ -37,4 +35,4 @@ returns-2 c = let l = c .before .loop in rw (← l .inv .1) (up-end _ _ _ (l .i)
 pub first-spec : {M : Type 1} → statement M
 first-spec =
     tie.close
-    (tie.spec Inv-loop μ-loop (λ c κs. search needs) (λ c. (refl, c .count .ensures)) (λ c κs. search needs) (λ c κs. search needs) returns (λ c. search needs) (λ c. search needs) loop-again returns-2)
+    (tie.spec Inv-loop μ-loop (λ c κs. search needs) (λ c. (refl, c .count .ensures)) (λ c κs. search needs) returns (λ c. search needs) (λ c. search needs) loop-again returns-2)

@@ -17,16 +17,14 @@ abbrev μ-loop : tie.MeasureT-loop
 returns : tie.Need-returns Inv-loop μ-loop
 returns c =
     let h = c .before in
-    let r = h .before in
-    let l = r .before .before .loop in
-    down-hit _ _ (l .i) (l .inv) (r .before .loop-test .taken) (rw (← r .at .ensures) (sym (h .holds .ensures) ∙ c .if1 .taken))
+    let l = h .before .before .loop in
+    down-hit _ _ (l .i) (l .inv) (h .before .loop-test .taken) (sym (h .holds .ensures) ∙ c .if1 .taken)
 
 loop-again : tie.Need-loop-again Inv-loop μ-loop
 loop-again c =
     let h = c .before in
-    let r = h .before in
-    let l = r .before .before .loop in
-    down-miss _ _ (l .i) (l .inv) (r .before .loop-test .taken) (rw (← r .at .ensures) (sym (h .holds .ensures) ∙ c .if1 .left))
+    let l = h .before .before .loop in
+    down-miss _ _ (l .i) (l .inv) (h .before .loop-test .taken) (sym (h .holds .ensures) ∙ c .if1 .left)
 
 returns-2 : tie.Need-returns-2 Inv-loop μ-loop
 returns-2 c = down-end _ _ (c .before .loop .i) (c .before .loop .inv) (c .loop-test .left)
@@ -34,4 +32,4 @@ returns-2 c = down-end _ _ (c .before .loop .i) (c .before .loop .inv) (c .loop-
 pub nearest-spec : {M : Type 1} → statement M
 nearest-spec =
     tie.close
-    (tie.spec Inv-loop μ-loop (λ c. refl) (λ c. search needs) (λ c κs. search needs) (λ c κs. search needs) returns (λ c. search needs) loop-again returns-2)
+    (tie.spec Inv-loop μ-loop (λ c. refl) (λ c. search needs) (λ c κs. search needs) returns (λ c. search needs) loop-again returns-2)
