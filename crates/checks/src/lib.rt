@@ -3,27 +3,28 @@ use faults::Finding;
 use repeats::Key;
 use rules::Tally;
 ghost use mathlib.Core.Path.{_≡_};
+ghost use mathlib.Core.Logic.{_⊎_};
+ghost use mathlib.Core.List.{[]};
 ghost use Prim.Native.Nat.{_+_, _^_, _<_, _≤_};
 ghost use lib.ListN.{length};
 ghost use Rattle.rules.specs.Table.{decode};
 ghost use Rattle.rules.specs.Faults.{log, logged};
 ghost use Rattle.rules.specs.Scopes.{pass1};
 ghost use Rattle.faults.specs.Notes.{findings, notedAll};
-ghost use Rattle.repeats.specs.Marks.{Marked};
-ghost use Rattle.repeats.specs.declared.Key.the-variants.{FieldNames, Sizes, ElementSizes};
 ghost use Rattle.checks.specs.Passes.{passAt, passFaults};
+ghost use Rattle.checks.specs.Known.{Known};
 ghost use Rattle.checks.specs.Later.{outcome, later};
 
 // What a pass finds at a place, where it is at most one fault.
-fn finding(pass: u8, t: &[u8], names: &[u8], p: usize) -> Finding
-    requires { ⌜ (pass ≡ 4 → ⊥) × (pass ≡ 5 → ⊥) × Marked (decode (now t)) FieldNames (now names) ⌝ }
+fn finding(pass: u8, t: &[u8], marks: &[u8], places: &[u16], p: usize) -> Finding
+    requires { ⌜ (pass ≡ 4 → ⊥) × (pass ≡ 5 → ⊥) × Known pass (decode (now t)) (now marks) [] (now places) ⌝ }
     ensures { λ r. ⌜ findings r ≡ passAt pass (decode (now (t .entry))) p ⌝ }
 {
     match pass {
-        1 => passes::scope::at_place(t, p),
-        3 => passes::field_identifiers::at_place(t, names, p),
-        6 => passes::fixed_fields::at_place(t, p),
-        7 => passes::payload_fields::at_place(t, p),
+        1 => passes::scope::at_place(t, places, p),
+        3 => passes::field_identifiers::at_place(t, marks, p),
+        6 => passes::fixed_fields::at_place(t, places, p),
+        7 => passes::payload_fields::at_place(t, marks, p),
         8 => passes::array_fields::at_place(t, p),
         9 => passes::padding_fields::at_place(t, p),
         _ => Finding::Fine,
@@ -34,75 +35,101 @@ fn finding(pass: u8, t: &[u8], names: &[u8], p: usize) -> Finding
 fn note_at(
     pass: u8,
     t: &[u8],
-    names: &[u8],
-    sizes: &[u8],
-    elements: &[u8],
+    marks: &[u8],
+    more: &[u8],
+    places: &[u16],
     p: usize,
     tally: Tally,
     buffer: &mut [u8],
 ) -> Tally
-    requires { ⌜ (pass ≡ 4 → ⊥) × (tally .total + 2 < 2 ^ 64) × Marked (decode (now t)) FieldNames (now names) × Marked (decode (now t)) Sizes (now sizes) × Marked (decode (now t)) ElementSizes (now elements) ⌝ }
+    requires { ⌜ (pass ≡ 4 → ⊥) × (tally .total + 2 < 2 ^ 64) × Known pass (decode (now t)) (now marks) (now more) (now places) ⌝ }
     ensures { λ r. ⌜ (log r (now (buffer .exit)) ≡ notedAll (log tally (now (buffer .entry))) (passAt pass (decode (now (t .entry))) p)) × (r .total ≤ tally .total + 2) ⌝ }
 {
     if pass != 5 {
-        return faults::note_found(tally, buffer, finding(pass, t, names, p));
+        return faults::note_found(tally, buffer, finding(pass, t, marks, places, p));
     }
     let once = faults::note_found(
         tally,
         buffer,
-        passes::size_fields::size_again(t, sizes, elements, p),
+        passes::size_fields::size_again(t, marks, more, p),
     );
     faults::note_found(once, buffer, passes::size_fields::size_target(t, p))
 }
 
-// All faults of a pass other than 4, with marks for what may not repeat.
+// All faults of a pass other than 4, with what it asks for.
 fn run_places(
     pass: u8,
     t: &[u8],
-    names: &[u8],
-    sizes: &[u8],
-    elements: &[u8],
+    marks: &[u8],
+    more: &[u8],
+    places: &[u16],
     buffer: &mut [u8],
 ) -> Tally
-    requires { ⌜ (pass ≡ 4 → ⊥) × Marked (decode (now t)) FieldNames (now names) × Marked (decode (now t)) Sizes (now sizes) × Marked (decode (now t)) ElementSizes (now elements) ⌝ }
+    requires { ⌜ (pass ≡ 4 → ⊥) × Known pass (decode (now t)) (now marks) (now more) (now places) ⌝ }
     ensures { λ r. ⌜ log r (now (buffer .exit)) ≡ logged (now (buffer .entry)) (passFaults pass (decode (now (t .entry)))) ⌝ }
 {
     let n = table::count(t);
     let mut tally = faults::no_faults();
     let mut p = 0;
     while p < n {
-        tally = note_at(pass, t, names, sizes, elements, p, tally, buffer);
+        tally = note_at(pass, t, marks, more, places, p, tally, buffer);
         p += 1;
     }
     tally
 }
 
-// The marks that a pass reads.
-fn mark_for(pass: u8, t: &[u8], names: &mut [u8], sizes: &mut [u8], elements: &mut [u8])
-    requires { ⌜ (1600 ≤ length (now names)) × (1600 ≤ length (now sizes)) × (1600 ≤ length (now elements)) × Marked (decode (now t)) FieldNames (now names) × Marked (decode (now t)) Sizes (now sizes) × Marked (decode (now t)) ElementSizes (now elements) ⌝ }
-    ensures { λ _. ⌜ Marked (decode (now (t .entry))) FieldNames (now (names .exit)) × Marked (decode (now (t .entry))) Sizes (now (sizes .exit)) × Marked (decode (now (t .entry))) ElementSizes (now (elements .exit)) ⌝ }
-{
-    if pass == 3 {
-        repeats::mark(t, Key::FieldNames, names);
-        return;
-    }
-    if pass != 5 {
-        return;
-    }
-    repeats::mark(t, Key::Sizes, sizes);
-    repeats::mark(t, Key::ElementSizes, elements);
-}
-
-// All faults of a pass other than 4.
-fn run_marked(pass: u8, t: &[u8], buffer: &mut [u8]) -> Tally
+// Nothing is known: every search looks at all it may have to.
+fn run_plain(pass: u8, t: &[u8], buffer: &mut [u8]) -> Tally
     requires { ⌜ (pass ≡ 4 → ⊥) ⌝ }
     ensures { λ r. ⌜ log r (now (buffer .exit)) ≡ logged (now (buffer .entry)) (passFaults pass (decode (now (t .entry)))) ⌝ }
 {
-    let mut names = [1u8; 1600];
+    let marks = [0u8; 0];
+    let places = [0u16; 0];
+    run_places(pass, t, &marks, &marks, &places, buffer)
+}
+
+// Passes 1 and 6 look up declarations by their names.
+fn run_declared(pass: u8, t: &[u8], buffer: &mut [u8]) -> Tally
+    requires { ⌜ (length (decode (now t)) ≤ 1600) × ((pass ≡ 1) ⊎ (pass ≡ 6)) ⌝ }
+    ensures { λ r. ⌜ log r (now (buffer .exit)) ≡ logged (now (buffer .entry)) (passFaults pass (decode (now (t .entry)))) ⌝ }
+{
+    let marks = [0u8; 0];
+    let mut places = [65535u16; 4093];
+    names::fill(t, &mut places);
+    run_places(pass, t, &marks, &marks, &places, buffer)
+}
+
+// Pass 3 asks which fields may repeat a name.
+fn run_fields(t: &[u8], buffer: &mut [u8]) -> Tally
+    ensures { λ r. ⌜ log r (now (buffer .exit)) ≡ logged (now (buffer .entry)) (passFaults 3 (decode (now (t .entry)))) ⌝ }
+{
+    let mut marks = [1u8; 1600];
+    let places = [0u16; 0];
+    repeats::mark(t, Key::FieldNames, &mut marks);
+    run_places(3, t, &marks, &marks, &places, buffer)
+}
+
+// Pass 5 asks which sizes may repeat a name.
+fn run_sizes(t: &[u8], buffer: &mut [u8]) -> Tally
+    ensures { λ r. ⌜ log r (now (buffer .exit)) ≡ logged (now (buffer .entry)) (passFaults 5 (decode (now (t .entry)))) ⌝ }
+{
     let mut sizes = [1u8; 1600];
     let mut elements = [1u8; 1600];
-    mark_for(pass, t, &mut names, &mut sizes, &mut elements);
-    run_places(pass, t, &names, &sizes, &elements, buffer)
+    let places = [0u16; 0];
+    repeats::mark(t, Key::Sizes, &mut sizes);
+    repeats::mark(t, Key::ElementSizes, &mut elements);
+    run_places(5, t, &sizes, &elements, &places, buffer)
+}
+
+// Pass 7 asks which names a child with a field has for its parent.
+fn run_parents(t: &[u8], buffer: &mut [u8]) -> Tally
+    ensures { λ r. ⌜ log r (now (buffer .exit)) ≡ logged (now (buffer .entry)) (passFaults 7 (decode (now (t .entry)))) ⌝ }
+{
+    let mut parents = [0u8; 4093];
+    let none = [0u8; 0];
+    let places = [0u16; 0];
+    passes::payload_fields::mark_parents(t, &mut parents);
+    run_places(7, t, &parents, &none, &places, buffer)
 }
 
 // All faults of a pass. Only pass 4 needs a bound on the table.
@@ -113,14 +140,24 @@ pub fn run(pass: u8, t: &[u8], buffer: &mut [u8]) -> Tally
     if pass == 4 {
         return enums::check_enum_declarations(t, buffer);
     }
-    run_marked(pass, t, buffer)
+    if !names::pays(t) {
+        return run_plain(pass, t, buffer);
+    }
+    match pass {
+        1 => run_declared(1, t, buffer),
+        3 => run_fields(t, buffer),
+        5 => run_sizes(t, buffer),
+        6 => run_declared(6, t, buffer),
+        7 => run_parents(t, buffer),
+        _ => run_plain(pass, t, buffer),
+    }
 }
 
 // All faults of pass 1.
 pub fn scope_new(t: &[u8], buffer: &mut [u8]) -> Tally
     ensures { λ r. ⌜ log r (now (buffer .exit)) ≡ logged (now (buffer .entry)) (pass1 (decode (now (t .entry)))) ⌝ }
 {
-    run_marked(1, t, buffer)
+    run(1, t, buffer)
 }
 
 // The answer of passes 3 to 9: the lowest that finds faults and their total, or none.

@@ -8,6 +8,7 @@ ghost use mathlib.Core.Path.{_≡_};
 ghost use Rattle.rules.specs.Table.{decode};
 ghost use Rattle.rules.specs.FixedFields.{enumFault, pass6At};
 ghost use Rattle.faults.specs.Notes.{findings};
+ghost use Rattle.names.specs.Starts.{Starts};
 
 // 33, 34, 35 for a missing enum, a missing tag, no enum.
 fn enum_fault(t: &[u8], p: usize, found: Found) -> Finding
@@ -29,7 +30,8 @@ fn enum_fault(t: &[u8], p: usize, found: Found) -> Finding
     }
 }
 
-pub fn at_place(t: &[u8], p: usize) -> Finding
+pub fn at_place(t: &[u8], starts: &[u16], p: usize) -> Finding
+    requires { ⌜ Starts (decode (now t)) (now starts) ⌝ }
     ensures { λ r. ⌜ findings r ≡ pass6At (decode (now (t .entry))) p ⌝ }
 {
     let r = table::at(t, p);
@@ -38,7 +40,7 @@ pub fn at_place(t: &[u8], p: usize) -> Finding
         return when(r.one < widths::bit_width(r.two), faults::single(32, r));
     }
     if k == 28 {
-        return enum_fault(t, p, table::search::decl_named(t, r.second));
+        return enum_fault(t, p, names::decl_named(t, starts, r.second));
     }
     Finding::Fine
 }

@@ -17,13 +17,12 @@ returns c =
 returns-2 : tie.Need-returns-2
 unfolding pass7At
 returns-2 c =
-    let h = c .before in
-    let i = h .before in
+    let i = c .before in
     let s = i .before in
     let f = s .before in
     let p = f .before in
     let k = p .before in
-    rw (← k .kind .ensures, sym (p .is-payload .ensures) ∙ f .if1 .left, sym (s .is-named-decl .ensures) ∙ i .if2 .taken, ← h .child-with-field .ensures) (c .missing-payload .ensures)
+    rw (← k .kind .ensures, sym (p .is-payload .ensures) ∙ f .if1 .left, sym (s .is-named-decl .ensures) ∙ i .if2 .taken) (c .missing-payload .ensures)
 
 returns-3 : tie.Need-returns-3
 unfolding pass7At
@@ -39,4 +38,4 @@ at-place-spec =
     tie.close
     (tie.spec
     (λ c κs. search needs) (λ c κs. search needs) (λ c κs. search needs) (λ c κs. search needs) returns (λ c κs. search needs)
-    (λ c κs. search needs) (λ c κs. search needs) returns-2 returns-3)
+    (λ c κs. search needs) returns-2 returns-3)

@@ -9,33 +9,29 @@ use Rattle.passes.proofs.scope.at_place.Tie as tie
 returns : tie.Need-returns
 unfolding pass1At
 returns c =
-    let i = c .before in
-    let a = i .before in
-    rw (← a .at .ensures, sym (i .is-named-decl .ensures) ∙ not-true _ (c .if1 .taken))
+    let n = c .before in
+    rw (← n .before .kind .ensures, sym (n .is-named-decl .ensures) ∙ not-true _ (c .if1 .taken))
 
 returns-2 : tie.Need-returns-2
 unfolding pass1At redeclared
 returns-2 c =
-    let a = c .before in
+    let s = c .before in
+    let a = s .before in
     let q = a .before .before in
     let e = q .before .before in
-    let i = e .before in
-    let s = i .before in
-    let t = s .before in
-    rw (c .double .ensures, ← t .at .ensures, sym (s .is-named-decl .ensures) ∙ not-false _ (i .if1 .left), ← e .earlier .ensures, q .q .given .1, a .at2 .ensures, ← t .at .ensures)
+    let n = e .before .before in
+    rw (c .double .ensures, ← n .before .kind .ensures, sym (n .is-named-decl .ensures) ∙ not-false _ (e .before .if1 .left), ← e .earlier .ensures, q .q .given .1, s .at2 .ensures, a .at .ensures)
 
 returns-3 : tie.Need-returns-3
 unfolding pass1At redeclared
 returns-3 c =
     let e = c .before .before in
-    let i = e .before in
-    let s = i .before in
-    let a = s .before in
-    rw (← a .at .ensures, sym (s .is-named-decl .ensures) ∙ not-false _ (i .if1 .left), ← e .earlier .ensures, c .enum-told .given .1)
+    let n = e .before .before in
+    rw (← n .before .kind .ensures, sym (n .is-named-decl .ensures) ∙ not-false _ (e .before .if1 .left), ← e .earlier .ensures, c .enum-told .given .1)
 
 pub at-place-spec : {M : Type 1} → statement M
 at-place-spec =
     tie.close
     (tie.spec
     (λ c κs. search needs) (λ c κs. search needs) returns (λ c κs. search needs) (λ c. search needs) (λ c κs. search needs)
-    (λ c κs. search needs) (λ c. search needs) returns-2 returns-3)
+    (λ c κs. search needs) (λ c κs. search needs) (λ c. search needs) returns-2 returns-3)

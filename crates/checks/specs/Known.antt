@@ -1,0 +1,17 @@
+-- What is known of a table before a pass runs over it, so that it searches less. Empty lists say nothing, and hold of every table.
+use Prim.Native.Nat.{ℕ}
+use mathlib.Core.Path.{_≡_}
+use mathlib.Core.List.{List}
+use Rattle.rules.specs.declared.Record.{Record}
+use Rattle.names.specs.Starts.{Starts}
+use Rattle.repeats.specs.Marks.{Marked}
+use Rattle.repeats.specs.declared.Key.the-variants.{FieldNames, Sizes, ElementSizes}
+use Rattle.passes.specs.Parents.{Parents}
+
+-- pass k finds in marks, more and places what it asks for
+pub record Known (k : ℕ) (rs : List Record) (marks more places : List ℕ) : Type 0 where
+  pub decls : k ≡ 1 → Starts rs places
+  pub fields : k ≡ 3 → Marked rs FieldNames marks
+  pub sizes : k ≡ 5 → Marked rs Sizes marks × Marked rs ElementSizes more
+  pub enums : k ≡ 6 → Starts rs places
+  pub parents : k ≡ 7 → Parents rs marks

@@ -1,0 +1,77 @@
+-- The marks of parents, a place at a time. Assumes nothing.
+use Prim.Native.Nat.{ℕ, zero, suc, _+_, _%_, _<_, _≤_}
+use mathlib.Core.Path.{_≡_, refl, sym, ap, _∙_}
+use mathlib.Core.Bool.{Bool, true, false, _&&_, not}
+use mathlib.Core.List.{List, []}
+use native.Mathlib.Omega.{arith}
+use native.Mathlib.Nat.{mod-lt}
+use native.Mathlib.Decide.{decLt, ℕ-discrete}
+use borrow.Author.Tests.{ne-eqb}
+use lib.Dec.{eqb}
+use lib.ListN.{length, getD, set}
+use lib.Seq.{getD-set-same, getD-set-other}
+use Rattle.rules.specs.Choice.{when}
+use Rattle.rules.specs.Kinds.{isPacketOrStruct}
+use Rattle.rules.specs.Table.{at}
+use Rattle.rules.specs.Places.{first}
+use Rattle.rules.specs.PayloadFields.{hasField, hasPayload, childWithField, missingPayload}
+use Rattle.rules.specs.declared.Record.{Record}
+use Rattle.rules.specs.declared.Found.{Found}
+use Rattle.rules.specs.declared.Found.the-variants.{At, Nothing}
+use Rattle.table.proofs.Searches.{false-true}
+use Rattle.passes.specs.Parents.{Childless, Parents}
+
+first-nothing : (f : ℕ → Bool) (p k : ℕ) → ((i : ℕ) → i < p + k → f i ≡ false) → first f p k ≡ Nothing
+unfolding first
+first-nothing f p zero h = refl
+first-nothing f p (suc k) h =
+    let z : f p ≡ false = h p (omega arith) in
+    rw (first, z) (first-nothing f (p + 1) k (λ i l. h i (omega arith)))
+
+and-false : (a b : Bool) → b ≡ false → (a && b) ≡ false
+and-false true b e = e
+and-false false b e = refl
+
+module _ (rs : List Record) where
+  pub childless-start : (marks : List ℕ) → Childless rs marks 0
+  childless-start marks = record { none = λ d m c l. absurd (omega arith) }
+
+  module _ (marks : List ℕ) (n : ℕ) (w : Childless rs marks n) where
+    -- the place n is no child with a field of a declaration whose mark is 0
+    childless-more : (marks′ : List ℕ) → ((d : ℕ) → getD marks′ (at rs d .name % 4093) 1 ≡ 0 → (getD marks (at rs d .name % 4093) 1 ≡ 0) × (childWithField rs d n ≡ false)) → Childless rs marks′ (n + 1)
+    childless-more marks′ h = record { none = λ d m c l. go d m c l (decLt c n) }
+      where
+        go : (d : ℕ) → getD marks′ (at rs d .name % 4093) 1 ≡ 0 → (c : ℕ) → c < n + 1 → Dec (c < n) → childWithField rs d c ≡ false
+        go d m c l (yes y) = w .none d (h d m .0) c y
+        go d m c l (no y) = let z : c ≡ n = omega arith in ap (childWithField rs d) z ∙ h d m .1
+
+    pub childless-kind : isPacketOrStruct (at rs n .kind) ≡ false → Childless rs marks (n + 1)
+    childless-kind e = childless-more marks (λ d m. (m, rw e))
+
+    pub childless-bare : hasField rs n ≡ false → Childless rs marks (n + 1)
+    childless-bare e = childless-more marks (λ d m. (m, and-false (isPacketOrStruct (at rs n .kind) && eqb (at rs n .second) (at rs d .name)) (hasField rs n) e))
+
+    pub childless-marked : (y : ℕ) → y ≡ at rs n .second → length marks ≡ 4093 → Childless rs (set marks (y % 4093) 1) (n + 1)
+    childless-marked y e l = childless-more (set marks (y % 4093) 1) (λ d m. go d m (ℕ-discrete (at rs d .name % 4093) (y % 4093)))
+      where
+        go : (d : ℕ) → getD (set marks (y % 4093) 1) (at rs d .name % 4093) 1 ≡ 0 → Dec (at rs d .name % 4093 ≡ y % 4093) → (getD marks (at rs d .name % 4093) 1 ≡ 0) × (childWithField rs d n ≡ false)
+        go d m (yes z) =
+            let r : y % 4093 < 4093 = mod-lt y (omega arith) in
+            let s : getD (set marks (y % 4093) 1) (y % 4093) 1 ≡ 1 = getD-set-same marks (y % 4093) 1 1 (omega arith) in
+            let q : getD (set marks (y % 4093) 1) (y % 4093) 1 ≡ 0 = rw z at m in
+            absurd (omega arith)
+        go d m (no z) =
+            let f : eqb (at rs n .second) (at rs d .name) ≡ false = ne-eqb (at rs n .second) (at rs d .name) (λ q. z (ap (λ (i : ℕ). i % 4093) (sym q ∙ sym e))) in
+            (sym (getD-set-other marks (y % 4093) (at rs d .name % 4093) 1 1 z) ∙ m, rw (f, and-false (isPacketOrStruct (at rs n .kind)) false refl))
+
+  -- a declaration whose mark is 0, or that has a Payload or Body, lacks none
+  pub none-missing : (marks : List ℕ) → Parents rs marks → (d x : ℕ) → x ≡ at rs d .name → getD marks (x % 4093) 1 ≡ 0 → [] ≡ missingPayload rs d (first (childWithField rs d) 0 (length rs))
+  unfolding missingPayload
+  none-missing marks w d x e m =
+      let m′ : getD marks (at rs d .name % 4093) 1 ≡ 0 = rw (← e) m in
+      rw (first-nothing (childWithField rs d) 0 (length rs) (λ i l. w .none d m′ i (omega arith)))
+
+  pub payload-missing : (d : ℕ) (f : Found) → hasPayload rs d ≡ true → [] ≡ missingPayload rs d f
+  unfolding missingPayload when
+  payload-missing d (At c) e = rw e
+  payload-missing d Nothing e = refl
