@@ -4,10 +4,10 @@ use Rattle.passes.proofs.size_fields.matching.Statement.{statement}
 use Rattle.passes.proofs.size_fields.matching.Tie as tie
 
 returns : tie.Need-returns
-returns c = rw (eq-eqb _ _ (c .if1 .taken))
+returns c = rw (eq-eqb _ 22 (c .if1 .taken))
 
 returns-2 : tie.Need-returns-2
-returns-2 c = rw (ne-eqb _ _ (c .if1 .left))
+returns-2 c = rw (ne-eqb _ 22 (c .if1 .left))
 
 pub matching-spec : {M : Type 1} → statement M
 matching-spec =

@@ -27,7 +27,7 @@ returns-2 c =
     let f = o .before in
     let i = f .before in
     let k = i .before in
-    rw (← k .kind .ensures, sym (i .is-size .ensures) ∙ not-false _ (f .if1 .left), ← o .size-code .ensures, eq-eqb _ _ (e .if2 .taken)) (c .again-marked .ensures)
+    rw (← k .kind .ensures, sym (i .is-size .ensures) ∙ not-false _ (f .if1 .left), ← o .size-code .ensures, eq-eqb _ 24 (e .if2 .taken)) (c .again-marked .ensures)
 
 returns-3 : tie.Need-returns-3
 unfolding again sizeAgain
@@ -37,7 +37,7 @@ returns-3 c =
     let f = o .before in
     let i = f .before in
     let k = i .before in
-    rw (← k .kind .ensures, sym (i .is-size .ensures) ∙ not-false _ (f .if1 .left), ← o .size-code .ensures, ne-eqb _ _ (e .if2 .left)) (c .again-marked2 .ensures)
+    rw (← k .kind .ensures, sym (i .is-size .ensures) ∙ not-false _ (f .if1 .left), ← o .size-code .ensures, ne-eqb _ 24 (e .if2 .left)) (c .again-marked2 .ensures)
 
 pub size-again-spec : {M : Type 1} → statement M
 size-again-spec =
