@@ -7,3 +7,4 @@ pub mod padding_fields;
 pub mod payload_fields;
 pub mod scope;
 pub mod size_fields;
+pub mod size_starts;

@@ -7,11 +7,14 @@ use rules::Target;
 use table::kinds::is_size;
 ghost use mathlib.Core.Path.{_≡_};
 ghost use Prim.Native.Nat.{_+_, _<_, _≤_};
+ghost use lib.ListN.{getD};
 ghost use Rattle.rules.specs.Table.{decode};
+ghost use Rattle.rules.specs.Places.{firstWithin};
 ghost use Rattle.rules.specs.SizeFields.{sizeCode, sizeAgain, matching, isSized, misnamed, sizeTarget};
 ghost use Rattle.faults.specs.Notes.{findings};
 ghost use Rattle.repeats.specs.Marks.{Marked};
 ghost use Rattle.repeats.specs.declared.Key.the-variants.{Sizes, ElementSizes};
+ghost use Rattle.passes.specs.SizeStarts.{targetAt, SizeStarts};
 
 // The code of a repeat, before those for missing and for no array.
 fn size_code(k: u8) -> u16
@@ -75,14 +78,37 @@ fn misnamed(code: u16, t: &[u8], p: usize, found: Found) -> Finding
     }
 }
 
+// Where the search for what the record at p names may start: 65535 where it is not known.
+fn start_at(places: &[u16], p: usize) -> u16
+    ensures { λ r. ⌜ r ≡ getD (now (places .entry)) p 65535 ⌝ }
+{
+    if p < places.len() {
+        return places[p];
+    }
+    65535
+}
+
+// The first match of the record at p within its declaration, or what follows it.
+fn first_match(t: &[u8], places: &[u16], x: Target, p: usize) -> Found
+    requires { ⌜ SizeStarts (decode (now t)) (now places) × (x ≡ targetAt (decode (now t)) p) ⌝ }
+    ensures { λ r. ⌜ r ≡ firstWithin (decode (now (t .entry))) x p ⌝ }
+{
+    let s = start_at(places, p);
+    if s == 65535 {
+        return table::search::first_within(t, x, p);
+    }
+    table::search::first(t, x, s as usize)
+}
+
 // Then missing 24, 27, 30, or no array 25, 28, 31.
-pub fn size_target(t: &[u8], p: usize) -> Finding
+pub fn size_target(t: &[u8], places: &[u16], p: usize) -> Finding
+    requires { ⌜ SizeStarts (decode (now t)) (now places) ⌝ }
     ensures { λ r. ⌜ findings r ≡ sizeTarget (decode (now (t .entry))) p ⌝ }
 {
     let r = table::at(t, p);
     if !is_size(r.kind) {
         return Finding::Fine;
     }
-    let found = table::search::first_within(t, matching(r.kind, r.second), p);
+    let found = first_match(t, places, matching(r.kind, r.second), p);
     misnamed(size_code(r.kind), t, p, found)
 }

@@ -15,6 +15,11 @@ returns c =
     let a = i .before in
     rw (← a .at .ensures, sym (i .is-size .ensures) ∙ not-true _ (c .if1 .taken))
 
+first-match-requires : tie.Need-first-match-requires
+first-match-requires c κs =
+    let a = c .before .before .before in
+    (a .before .before .before .pre, rw (← a .at .ensures) (c .matching .ensures))
+
 size-code-requires : tie.Need-size-code-requires
 size-code-requires c κs =
     let i = c .before .before in
@@ -31,11 +36,12 @@ returns-2 c =
     let i = m .before in
     let z = i .before in
     let a = z .before in
-    rw (← a .at .ensures, sym (z .is-size .ensures) ∙ not-false _ (i .if1 .left), ← s .size-code .ensures, ← m .matching .ensures, ← f .first-within .ensures) (c .misnamed .ensures)
+    let e = sym (z .is-size .ensures) ∙ not-false _ (i .if1 .left) in
+    rw (← a .at .ensures, e, ← s .size-code .ensures, ← m .matching .ensures, ← f .first-match .ensures) (c .misnamed .ensures)
 
 pub size-target-spec : {M : Type 1} → statement M
 size-target-spec =
     tie.close
     (tie.spec
-    (λ c κs. search needs) (λ c κs. search needs) returns (λ c κs. search needs) (λ c κs. search needs) size-code-requires
+    (λ c κs. search needs) (λ c κs. search needs) returns (λ c κs. search needs) first-match-requires size-code-requires
     (λ c κs. search needs) returns-2)
