@@ -14,6 +14,10 @@ use Rattle.faults.specs.declared.Finding.the-variants.{One, Fine}
 abbrev pub none : Tally
 none = record { kept = 0; total = 0 }
 
+-- so many faults kept, and so many found
+abbrev pub tallied : ℕ → ℕ → Tally
+tallied kept total = record { kept = kept; total = total }
+
 -- one fault more is kept where a whole one still fits, and counted
 unfoldable pub noted : Log → Fault → Log
 noted l f =

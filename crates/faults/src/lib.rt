@@ -5,7 +5,7 @@ use rules::Tally;
 ghost use mathlib.Core.Path.{_≡_};
 ghost use Prim.Native.Nat.{_+_, _^_, _<_};
 ghost use Rattle.rules.specs.Faults.{faultBytes, single, double, log};
-ghost use Rattle.faults.specs.Notes.{none, findings, noted, notedAll};
+ghost use Rattle.faults.specs.Notes.{none, tallied, findings, noted, notedAll};
 
 // The length of a fault in bytes.
 pub const FAULT_LENGTH: usize = 20;
@@ -80,12 +80,11 @@ fn bytes_of(f: Fault) -> [u8; 20]
 }
 
 // One fault more: kept where a whole one still fits, and counted.
-pub fn note(t: Tally, buffer: &mut [u8], f: Fault) -> Tally
-    requires { ⌜ t .total + 1 < 2 ^ 64 ⌝ }
-    ensures { λ r. ⌜ log r (now (buffer .exit)) ≡ noted (log t (now (buffer .entry))) f ⌝ }
+fn keep(buffer: &mut [u8], kept: usize, total: usize, f: Fault) -> Tally
+    requires { ⌜ total + 1 < 2 ^ 64 ⌝ }
+    ensures { λ r. ⌜ log r (now (buffer .exit)) ≡ noted (log (tallied kept total) (now (buffer .entry))) f ⌝ }
 {
-    let kept = t.kept;
-    let total = t.total + 1;
+    let total = total + 1;
     if kept < buffer.len() / FAULT_LENGTH {
         let bytes = bytes_of(f);
         store::write(buffer, FAULT_LENGTH * kept, &bytes);
@@ -98,13 +97,33 @@ pub fn note(t: Tally, buffer: &mut [u8], f: Fault) -> Tally
     }
 }
 
+// The same, where the tally is lent and changed where it is.
+pub fn note(tally: &mut Tally, buffer: &mut [u8], f: Fault)
+    requires { ⌜ now tally .total + 1 < 2 ^ 64 ⌝ }
+    ensures { λ _. ⌜ log (now (tally .exit)) (now (buffer .exit)) ≡ noted (log (now (tally .entry)) (now (buffer .entry))) f ⌝ }
+{
+    let kept = tally.kept;
+    let total = tally.total;
+    *tally = keep(buffer, kept, total, f);
+}
+
+// The same, where the tally goes in and comes back by value.
+pub fn noted(t: Tally, buffer: &mut [u8], f: Fault) -> Tally
+    requires { ⌜ t .total + 1 < 2 ^ 64 ⌝ }
+    ensures { λ r. ⌜ log r (now (buffer .exit)) ≡ noted (log t (now (buffer .entry))) f ⌝ }
+{
+    let mut tally = t;
+    note(&mut tally, buffer, f);
+    tally
+}
+
 // What was found at a place, noted.
 pub fn note_found(t: Tally, buffer: &mut [u8], found: Finding) -> Tally
     requires { ⌜ t .total + 1 < 2 ^ 64 ⌝ }
     ensures { λ r. ⌜ log r (now (buffer .exit)) ≡ notedAll (log t (now (buffer .entry))) (findings found) ⌝ }
 {
     match found {
-        Finding::One(f) => note(t, buffer, f),
+        Finding::One(f) => noted(t, buffer, f),
         Finding::Fine => t,
     }
 }

@@ -49,7 +49,7 @@ fn note(t: &[u8], buffer: &mut [u8], a: Progress, code: u16, p: usize) -> Progre
 {
     let f = faults::single(code, table::at(t, p));
     let before = a.tally;
-    let tally = faults::note(before, buffer, f);
+    let tally = faults::noted(before, buffer, f);
     Progress {
         listed: a.listed,
         tally,

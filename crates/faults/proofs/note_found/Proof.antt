@@ -8,7 +8,7 @@ use Rattle.faults.proofs.note_found.Tie as tie
 returns : tie.Need-returns
 returns c =
     let n = c .before .before in
-    rw (n .before .before .before .found .given .1) (n .note .ensures ∙ noted-one _ _)
+    rw (n .before .before .before .found .given .1) (n .noted .ensures ∙ noted-one _ _)
 
 returns-2 : tie.Need-returns-2
 returns-2 c = rw (c .enum-told .given .1) (noted-none _)

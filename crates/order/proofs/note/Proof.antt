@@ -8,7 +8,7 @@ returns : tie.Need-returns
 returns c =
     let k = c .before .before in
     let s = k .before .before .before in
-    (refl, rw (← s .before .at .ensures, ← s .single .ensures) (k .note .ensures))
+    (refl, rw (← s .before .at .ensures, ← s .single .ensures) (k .noted .ensures))
 
 pub note-spec : {M : Type 1} → statement M
 note-spec =
