@@ -165,11 +165,11 @@ fn count_own(t: &[u8], a: usize) -> usize
     n
 }
 
-// How many conditions stand at p.
+// How many conditions stand behind p.
 fn count_condition(t: &[u8], p: usize) -> usize
-    ensures { λ n. ⌜ n ≡ length (conditionAt (decode (now (t .entry))) p) ⌝ }
+    ensures { λ n. ⌜ n ≡ length (conditionAt (decode (now (t .entry))) (p + 1)) ⌝ }
 {
-    if table::kind(t, p) == 11 { 1 } else { 0 }
+    if walker::kind_after(t, p) == 11 { 1 } else { 0 }
 }
 
 // How many records the record at p becomes.
@@ -182,7 +182,7 @@ fn size_at(t: &[u8], marks: &[u8], p: usize, a: usize) -> usize
         return 0;
     }
     let made = count_made(t, marks, r, a);
-    let c = count_condition(t, p + 1);
+    let c = count_condition(t, p);
     if made == 0 {
         let own = count_own(t, p + 1 + c);
         return 1 + c + own;

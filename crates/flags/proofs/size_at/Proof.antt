@@ -67,5 +67,5 @@ pub size-at-spec : {M : Type 1} → statement M
 size-at-spec =
     tie.close
     (tie.spec
-    (λ c κs. search needs) returns (λ c κs. search needs) (λ c. search needs) (λ c κs. search needs) (λ c. search needs)
+    (λ c κs. search needs) returns (λ c κs. search needs) (λ c κs. search needs) (λ c. search needs)
     add-count-own-2 (λ c κs. search needs) add-result add-result-2 returns-2 add-result-3 add-result-4 returns-3)
