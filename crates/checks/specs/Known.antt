@@ -6,12 +6,13 @@ use Rattle.rules.specs.declared.Record.{Record}
 use Rattle.names.specs.Starts.{Starts}
 use Rattle.repeats.specs.Marks.{Marked}
 use Rattle.repeats.specs.declared.Key.the-variants.{FieldNames, Sizes, ElementSizes}
+use Rattle.passes.specs.SizeStarts.{SizeStarts}
 use Rattle.passes.specs.Parents.{Parents}
 
 -- pass k finds in marks, more and places what it asks for
 pub record Known (k : ℕ) (rs : List Record) (marks more places : List ℕ) : Type 0 where
   pub decls : k ≡ 1 → Starts rs places
   pub fields : k ≡ 3 → Marked rs FieldNames marks
-  pub sizes : k ≡ 5 → Marked rs Sizes marks × Marked rs ElementSizes more
+  pub sizes : k ≡ 5 → Marked rs Sizes marks × Marked rs ElementSizes more × SizeStarts rs places
   pub enums : k ≡ 6 → Starts rs places
   pub parents : k ≡ 7 → Parents rs marks

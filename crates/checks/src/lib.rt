@@ -53,7 +53,7 @@ fn note_at(
         buffer,
         passes::size_fields::size_again(t, marks, more, p),
     );
-    faults::note_found(once, buffer, passes::size_fields::size_target(t, p))
+    faults::note_found(once, buffer, passes::size_fields::size_target(t, places, p))
 }
 
 // All faults of a pass other than 4, with what it asks for.
@@ -109,15 +109,17 @@ fn run_fields(t: &[u8], buffer: &mut [u8]) -> Tally
     run_places(3, t, &marks, &marks, &places, buffer)
 }
 
-// Pass 5 asks which sizes may repeat a name.
+// Pass 5 asks which sizes may repeat a name, and where to search for what they name.
 fn run_sizes(t: &[u8], buffer: &mut [u8]) -> Tally
+    requires { ⌜ length (decode (now t)) ≤ 1600 ⌝ }
     ensures { λ r. ⌜ log r (now (buffer .exit)) ≡ logged (now (buffer .entry)) (passFaults 5 (decode (now (t .entry)))) ⌝ }
 {
     let mut sizes = [1u8; 1600];
     let mut elements = [1u8; 1600];
-    let places = [0u16; 0];
+    let mut places = [65535u16; 1600];
     repeats::mark(t, Key::Sizes, &mut sizes);
     repeats::mark(t, Key::ElementSizes, &mut elements);
+    passes::size_starts::fill(t, &mut places);
     run_places(5, t, &sizes, &elements, &places, buffer)
 }
 

@@ -44,12 +44,15 @@ returns-6 c =
 returns-7 : tie.Need-returns-7
 unfolding passAt
 returns-7 c =
-    let s = c .before .before .before in
+    let s = c .before .before .before .before in
     rw (ne-eqb _ _ (c .match .rest .0 .0 .0 .0 .0 .1), ne-eqb _ _ (c .match .rest .0 .0 .0 .0 .1), ne-eqb _ _ (s .pre .0), ne-eqb _ _ (s .pre .1), ne-eqb _ _ (c .match .rest .0 .0 .0 .1), ne-eqb _ _ (c .match .rest .0 .0 .1), ne-eqb _ _ (c .match .rest .0 .1), ne-eqb _ _ (c .match .rest .1))
 
 pub finding-spec : {M : Type 1} → statement M
 finding-spec =
     tie.close
     (tie.spec
-    (λ c κs. search needs) (λ c κs. search needs) (λ c κs. search needs) (λ c κs. search needs) (λ c κs. search needs)
-    (λ c κs. search needs) returns returns-2 returns-3 returns-4 returns-5 returns-6 returns-7)
+    (λ c κs. c .before .before .before .before .pre .2 .decls (c .match .keys1))
+    (λ c κs. c .before .before .before .before .pre .2 .fields (c .match .keys2))
+    (λ c κs. c .before .before .before .before .pre .2 .enums (c .match .keys3))
+    (λ c κs. c .before .before .before .before .pre .2 .parents (c .match .keys4))
+    (λ c κs. search needs) (λ c κs. search needs) returns returns-2 returns-3 returns-4 returns-5 returns-6 returns-7)

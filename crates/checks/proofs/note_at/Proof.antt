@@ -3,9 +3,16 @@ use borrow.Author.Needs.{needs}
 use native.Mathlib.Omega.{arith}
 use Rattle.rules.specs.SizeFields.{pass5At}
 use Rattle.checks.specs.Passes.{passAt}
+use Rattle.checks.proofs.Known.{known-other}
 use Rattle.checks.proofs.Laws.{one-more, noted-once, noted-twice}
 use Rattle.checks.proofs.note_at.Statement.{statement}
 use Rattle.checks.proofs.note_at.Tie as tie
+
+finding-requires : tie.Need-finding-requires
+finding-requires c κs =
+    let i = c .before in
+    let s = i .before .before .before .before .before .before in
+    (s .pre .0, i .if1 .taken, known-other _ _ _ _ _ (i .if1 .taken) (s .pre .2))
 
 returns : tie.Need-returns
 returns c =
@@ -17,7 +24,8 @@ note-found-requires-3 : tie.Need-note-found-requires-3
 note-found-requires-3 c κs =
     let n = c .before .before .before .before in
     let s = n .before in
-    omega (arith, one-more _ _ _ _ (s .size-again .result) _ (n .note-found2 .ensures) (s .size-again .ensures))
+    let p = s .before .before .before .before .before .before .before .before in
+    omega (arith, p .pre .1, one-more _ _ _ _ (s .size-again .result) _ (n .note-found2 .ensures) (s .size-again .ensures))
 
 returns-2 : tie.Need-returns-2
 unfolding passAt pass5At
@@ -29,9 +37,20 @@ returns-2 c =
     let f = i .before .before in
     rw (f .if1 .left) (noted-twice _ _ _ _ (i .size-again .result) _ (o .note-found2 .ensures) (i .size-again .ensures) _ _ (s .size-target .result) _ (n .note-found3 .ensures) (s .size-target .ensures))
 
+size-again-requires : tie.Need-size-again-requires
+size-again-requires c κs =
+    let i = c .before in
+    let w = i .before .before .before .before .before .before .pre .2 .sizes (i .if1 .left) in
+    (w .0, w .1)
+
+size-target-requires : tie.Need-size-target-requires
+size-target-requires c κs =
+    let i = c .before .before .before .before .before .before in
+    i .before .before .before .before .before .before .pre .2 .sizes (i .if1 .left) .2
+
 pub note-at-spec : {M : Type 1} → statement M
 note-at-spec =
     tie.close
     (tie.spec
-    (λ c κs. search needs) (λ c κs. search needs) (λ c. search needs) returns (λ c κs. search needs) (λ c κs. search needs)
-    (λ c κs. search needs) note-found-requires-3 (λ c. search needs) returns-2)
+    finding-requires (λ c κs. search needs) (λ c. search needs) returns size-again-requires (λ c κs. search needs)
+    size-target-requires note-found-requires-3 (λ c. search needs) returns-2)

@@ -18,11 +18,11 @@ use Rattle.checks.proofs.run_places.Statement.{statement}
 use Rattle.checks.proofs.run_places.Tie as tie
 
 abbrev Inv-loop : tie.InvT-loop
-Inv-loop pass t names sizes elements buffer₀ n tally₀ p₀ buffer tally p =
+Inv-loop pass t marks more places buffer₀ n tally₀ p₀ buffer tally p =
     (log tally buffer ≡ notedAll (log none buffer₀) (each (passAt pass (decode t)) p)) × (p ≤ n) × (n ≡ length (decode t)) × (length buffer ≡ length buffer₀) × (tally .total ≤ 2 * p)
 
 abbrev μ-loop : tie.MeasureT-loop
-μ-loop pass t names sizes elements buffer₀ n tally₀ p₀ buffer tally p = n - p
+μ-loop pass t marks more places buffer₀ n tally₀ p₀ buffer tally p = n - p
 
 loop-holds : tie.Need-loop-holds Inv-loop μ-loop
 loop-holds c =
@@ -32,7 +32,7 @@ loop-holds c =
 note-at-requires : tie.Need-note-at-requires Inv-loop μ-loop
 note-at-requires c κs =
     let s = c .before .before .before .before .before .before .before .before .before .before in
-    (s .pre .0, omega (arith, length-decode (now (s .args .t))), s .pre .1, s .pre .2, s .pre .3)
+    (s .pre .0, omega (arith, length-decode (now (s .args .t))), s .pre .1)
 
 loop-again : tie.Need-loop-again Inv-loop μ-loop
 loop-again c =

@@ -8,7 +8,7 @@ returns : tie.Need-returns
 unfolding passFaults
 returns c =
     let r = c .before .before in
-    r .run-marked .ensures
+    r .run .ensures
 
 pub scope-new-spec : {M : Type 1} → statement M
 scope-new-spec =
