@@ -19,6 +19,7 @@ ghost use Rattle.rules.specs.Places.{memberCount};
 ghost use Rattle.rules.specs.Faults.{single, log};
 ghost use Rattle.rules.specs.DeclIdentifiers.{visited, rootReference, allRecords};
 ghost use Rattle.faults.specs.Notes.{noted};
+ghost use Rattle.names.specs.Starts.{Starts};
 ghost use Rattle.order.specs.Contract.{memberAt, Ready, Visited, Walked, Held, allBytes, Placed, Checked};
 
 // How many places are listed, and the faults found.
@@ -74,23 +75,23 @@ fn list(d: usize, marks: &mut [u8], places: &mut [u16], a: Progress) -> Progress
 // Visits the declaration at d: what its fields refer to, then its parent, then d is listed.
 fn visit(
     t: &[u8],
+    starts: &[u16],
     d: usize,
     marks: &mut [u8],
     places: &mut [u16],
     buffer: &mut [u8],
     a: Progress,
 ) -> Progress
-    requires { ⌜ d < length (decode (now t)) ⌝ }
-    requires { ⌜ Ready (decode (now t)) (now marks) (now places) (now buffer) a 1 0 ⌝ }
+    requires { ⌜ (d < length (decode (now t))) × Ready (decode (now t)) (now marks) (now places) (now buffer) a 1 0 × Starts (decode (now t)) (now starts) ⌝ }
     ensures { λ z. ⌜ Visited (decode (now (t .entry))) (Reference.Follow d) (now (marks .entry)) (now (places .entry)) (now (buffer .entry)) a (now (marks .exit)) (now (places .exit)) (now (buffer .exit)) z ⌝ }
 {
     let m = marks[d];
     if m == 0 {
         marks[d] = 1;
-        let b = walk(t, d + 1, marks, places, buffer, a);
-        let r = own_reference(t, d);
+        let b = walk(t, starts, d + 1, marks, places, buffer, a);
+        let r = own_reference(t, starts, d);
         let g = match r {
-            Reference::Follow(e) => visit(t, e, marks, places, buffer, b),
+            Reference::Follow(e) => visit(t, starts, e, marks, places, buffer, b),
             Reference::Wrong(code, p) => note(t, buffer, b, code, p),
             Reference::Nowhere => b,
         };
@@ -105,23 +106,24 @@ fn visit(
 // Visits what the fields from p on refer to, up to the next declaration.
 fn walk(
     t: &[u8],
+    starts: &[u16],
     p: usize,
     marks: &mut [u8],
     places: &mut [u16],
     buffer: &mut [u8],
     a: Progress,
 ) -> Progress
-    requires { ⌜ Ready (decode (now t)) (now marks) (now places) (now buffer) a (length (decode (now t)) - p) 0 ⌝ }
+    requires { ⌜ Ready (decode (now t)) (now marks) (now places) (now buffer) a (length (decode (now t)) - p) 0 × Starts (decode (now t)) (now starts) ⌝ }
     ensures { λ z. ⌜ Walked (decode (now (t .entry))) p (now (marks .entry)) (now (places .entry)) (now (buffer .entry)) a (now (marks .exit)) (now (places .exit)) (now (buffer .exit)) z ⌝ }
 {
     if member_at(t, p) {
-        let r = field_reference(t, p);
+        let r = field_reference(t, starts, p);
         let b = match r {
-            Reference::Follow(e) => visit(t, e, marks, places, buffer, a),
+            Reference::Follow(e) => visit(t, starts, e, marks, places, buffer, a),
             Reference::Wrong(code, q) => note(t, buffer, a, code, q),
             Reference::Nowhere => a,
         };
-        walk(t, p + 1, marks, places, buffer, b)
+        walk(t, starts, p + 1, marks, places, buffer, b)
     } else {
         a
     }
@@ -130,26 +132,32 @@ fn walk(
 // Takes up what the record at p refers to: a declaration is visited, a test is checked.
 fn visit_root(
     t: &[u8],
+    starts: &[u16],
     p: usize,
     marks: &mut [u8],
     places: &mut [u16],
     buffer: &mut [u8],
     a: Progress,
 ) -> Progress
-    requires { ⌜ p < length (decode (now t)) ⌝ }
-    requires { ⌜ Ready (decode (now t)) (now marks) (now places) (now buffer) a 1 0 ⌝ }
+    requires { ⌜ (p < length (decode (now t))) × Ready (decode (now t)) (now marks) (now places) (now buffer) a 1 0 × Starts (decode (now t)) (now starts) ⌝ }
     ensures { λ z. ⌜ Visited (decode (now (t .entry))) (rootReference (decode (now (t .entry))) p) (now (marks .entry)) (now (places .entry)) (now (buffer .entry)) a (now (marks .exit)) (now (places .exit)) (now (buffer .exit)) z ⌝ }
 {
-    match root_reference(t, p) {
-        Reference::Follow(d) => visit(t, d, marks, places, buffer, a),
+    match root_reference(t, starts, p) {
+        Reference::Follow(d) => visit(t, starts, d, marks, places, buffer, a),
         Reference::Wrong(code, q) => note(t, buffer, a, code, q),
         Reference::Nowhere => a,
     }
 }
 
 // Takes up what each record refers to, in table order. The first listed places of `places` are the order.
-fn visit_all(t: &[u8], marks: &mut [u8], places: &mut [u16], buffer: &mut [u8]) -> Progress
-    requires { ⌜ (length (decode (now t)) ≤ 1600) × (now marks ≡ replicate (length (decode (now t))) 0) × (length (decode (now t)) ≤ length (now places)) ⌝ }
+fn visit_all(
+    t: &[u8],
+    starts: &[u16],
+    marks: &mut [u8],
+    places: &mut [u16],
+    buffer: &mut [u8],
+) -> Progress
+    requires { ⌜ (length (decode (now t)) ≤ 1600) × (now marks ≡ replicate (length (decode (now t))) 0) × (length (decode (now t)) ≤ length (now places)) × Starts (decode (now t)) (now starts) ⌝ }
     ensures { λ r. ⌜ Held (decode (now (t .entry))) (now (places .entry)) (now (buffer .entry)) (visited (decode (now (t .entry)))) (now (marks .exit)) (now (places .exit)) (now (buffer .exit)) r ⌝ }
 {
     let n = table::count(t);
@@ -159,7 +167,7 @@ fn visit_all(t: &[u8], marks: &mut [u8], places: &mut [u16], buffer: &mut [u8]) 
     };
     let mut p = 0;
     while p < n {
-        a = visit_root(t, p, marks, places, buffer, a);
+        a = visit_root(t, starts, p, marks, places, buffer, a);
         p += 1;
     }
     a
@@ -196,15 +204,16 @@ fn copy_listed(t: &[u8], places: &[u16], n: usize, out: &mut [u8]) -> usize
 // The visits with marks and places of the caller's, then the copy, if no fault is found.
 fn order_with(
     t: &[u8],
+    starts: &[u16],
     marks: &mut [u8],
     places: &mut [u16],
     buffer: &mut [u8],
     out: &mut [u8],
 ) -> Outcome
-    requires { ⌜ (length (decode (now t)) ≤ 1600) × (now marks ≡ replicate (length (decode (now t))) 0) × (length (decode (now t)) ≤ length (now places)) × (40 * length (decode (now t)) ≤ length (now out)) ⌝ }
+    requires { ⌜ (length (decode (now t)) ≤ 1600) × (now marks ≡ replicate (length (decode (now t))) 0) × (length (decode (now t)) ≤ length (now places)) × (40 * length (decode (now t)) ≤ length (now out)) × Starts (decode (now t)) (now starts) ⌝ }
     ensures { λ r. ⌜ Checked (now (t .entry)) (now (buffer .entry)) (now (out .entry)) (now (buffer .exit)) (now (out .exit)) r ⌝ }
 {
-    let a = visit_all(t, marks, places, buffer);
+    let a = visit_all(t, starts, marks, places, buffer);
     let tally = a.tally;
     if 0 < tally.total {
         return Outcome { records: 0, tally };
@@ -215,13 +224,27 @@ fn order_with(
     }
 }
 
-// Pass 2: its faults, and, if there are none, the listed table at the start of out, all others of its bytes unchanged.
-pub fn check_decl_identifiers(t: &[u8], buffer: &mut [u8], out: &mut [u8]) -> Outcome
-    requires { ⌜ (length (decode (now t)) ≤ 1600) × (40 * length (decode (now t)) ≤ length (now out)) ⌝ }
+// The pass with marks and places of its own.
+fn order_from(t: &[u8], starts: &[u16], buffer: &mut [u8], out: &mut [u8]) -> Outcome
+    requires { ⌜ (length (decode (now t)) ≤ 1600) × (40 * length (decode (now t)) ≤ length (now out)) × Starts (decode (now t)) (now starts) ⌝ }
     ensures { λ r. ⌜ Checked (now (t .entry)) (now (buffer .entry)) (now (out .entry)) (now (buffer .exit)) (now (out .exit)) r ⌝ }
 {
     let n = table::count(t);
     let mut marks = [0u8; 1600];
     let mut places = [0u16; 1600];
-    order_with(t, &mut marks[0..n], &mut places, buffer, out)
+    order_with(t, starts, &mut marks[0..n], &mut places, buffer, out)
+}
+
+// Pass 2: its faults, and, if there are none, the listed table at the start of out, all others of its bytes unchanged.
+pub fn check_decl_identifiers(t: &[u8], buffer: &mut [u8], out: &mut [u8]) -> Outcome
+    requires { ⌜ (length (decode (now t)) ≤ 1600) × (40 * length (decode (now t)) ≤ length (now out)) ⌝ }
+    ensures { λ r. ⌜ Checked (now (t .entry)) (now (buffer .entry)) (now (out .entry)) (now (buffer .exit)) (now (out .exit)) r ⌝ }
+{
+    if names::pays(t) {
+        let mut starts = [65535u16; 4093];
+        names::fill(t, &mut starts);
+        return order_from(t, &starts, buffer, out);
+    }
+    let none = [0u16; 0];
+    order_from(t, &none, buffer, out)
 }

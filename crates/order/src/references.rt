@@ -1,9 +1,10 @@
 // What a record refers to by a name: nothing, a fault, or a declaration to visit.
+use names::decl_named;
 use rules::Found;
 use rules::Reference;
-use table::search::decl_named;
 ghost use mathlib.Core.Path.{_≡_};
 ghost use Rattle.rules.specs.Table.{decode};
+ghost use Rattle.names.specs.Starts.{Starts};
 ghost use Rattle.rules.specs.DeclIdentifiers.{groupReference, typeReference, parentReference, testReference, fieldReference, ownReference, rootReference};
 
 // The Group field at p.
@@ -74,35 +75,38 @@ fn test_reference(t: &[u8], p: usize, found: Found) -> Reference
 }
 
 // The record at p, as a field.
-pub fn field_reference(t: &[u8], p: usize) -> Reference
+pub fn field_reference(t: &[u8], starts: &[u16], p: usize) -> Reference
+    requires { ⌜ Starts (decode (now t)) (now starts) ⌝ }
     ensures { λ r. ⌜ r ≡ fieldReference (decode (now (t .entry))) p ⌝ }
 {
     let r = table::at(t, p);
     if r.kind == 34 {
-        return group_reference(t, p, decl_named(t, r.second));
+        return group_reference(t, p, decl_named(t, starts, r.second));
     }
     if r.kind == 33 {
-        return type_reference(true, t, p, decl_named(t, r.second));
+        return type_reference(true, t, p, decl_named(t, starts, r.second));
     }
     if (r.kind == 30) & !(r.second == 0) {
-        return type_reference(2 <= r.marks, t, p, decl_named(t, r.second));
+        return type_reference(2 <= r.marks, t, p, decl_named(t, starts, r.second));
     }
     Reference::Nowhere
 }
 
 // The declaration at d, by its parent's name.
-pub fn own_reference(t: &[u8], d: usize) -> Reference
+pub fn own_reference(t: &[u8], starts: &[u16], d: usize) -> Reference
+    requires { ⌜ Starts (decode (now t)) (now starts) ⌝ }
     ensures { λ r. ⌜ r ≡ ownReference (decode (now (t .entry))) d ⌝ }
 {
     let r = table::at(t, d);
     if ((4 <= r.kind) & (r.kind <= 5)) & !(r.second == 0) {
-        return parent_reference(t, d, decl_named(t, r.second));
+        return parent_reference(t, d, decl_named(t, starts, r.second));
     }
     Reference::Nowhere
 }
 
 // The record at p, in table order: a declaration is visited, a test is checked.
-pub fn root_reference(t: &[u8], p: usize) -> Reference
+pub fn root_reference(t: &[u8], starts: &[u16], p: usize) -> Reference
+    requires { ⌜ Starts (decode (now t)) (now starts) ⌝ }
     ensures { λ r. ⌜ r ≡ rootReference (decode (now (t .entry))) p ⌝ }
 {
     let r = table::at(t, p);
@@ -110,7 +114,7 @@ pub fn root_reference(t: &[u8], p: usize) -> Reference
         return Reference::Follow(p);
     }
     if r.kind == 7 {
-        return test_reference(t, p, decl_named(t, r.second));
+        return test_reference(t, p, decl_named(t, starts, r.second));
     }
     Reference::Nowhere
 }

@@ -26,23 +26,23 @@ use Rattle.order.proofs.references.own_reference.Reads as own-reference
 use Rattle.order.proofs.+visit+walk.{statement}
 use Rattle.order.proofs.+visit+walk.Tie.{close}
 
-abbrev μ-visit : Measures 4 visit-kinds.ps ℕ
-μ-visit κs a = unvisitedCount (a .1 .1 .0 .now) * 2048
+abbrev μ-visit : Measures 5 visit-kinds.ps ℕ
+μ-visit κs a = unvisitedCount (a .1 .1 .1 .0 .now) * 2048
 
-abbrev μ-walk : Measures 4 walk-kinds.ps ℕ
-μ-walk κs a = unvisitedCount (a .1 .1 .0 .now) * 2048 + 1 + (length (decode (a .0 .now)) - a .1 .0)
+abbrev μ-walk : Measures 5 walk-kinds.ps ℕ
+μ-walk κs a = unvisitedCount (a .1 .1 .1 .0 .now) * 2048 + 1 + (length (decode (a .0 .now)) - a .1 .1 .0)
 
-abbrev visit-at : ℕ → In 4 visit-kinds.ps
-visit-at t = and 4 visit-kinds.ps (is 4 visit-kinds.ps μ-visit t) visit.Pre
+abbrev visit-at : ℕ → In 5 visit-kinds.ps
+visit-at t = and 5 visit-kinds.ps (is 5 visit-kinds.ps μ-visit t) visit.Pre
 
-abbrev visit-below : ℕ → In 4 visit-kinds.ps
-visit-below t = and 4 visit-kinds.ps (falls 4 visit-kinds.ps _<_ μ-visit t) visit.Pre
+abbrev visit-below : ℕ → In 5 visit-kinds.ps
+visit-below t = and 5 visit-kinds.ps (falls 5 visit-kinds.ps _<_ μ-visit t) visit.Pre
 
-abbrev walk-at : ℕ → In 4 walk-kinds.ps
-walk-at t = and 4 walk-kinds.ps (is 4 walk-kinds.ps μ-walk t) walk.Pre
+abbrev walk-at : ℕ → In 5 walk-kinds.ps
+walk-at t = and 5 walk-kinds.ps (is 5 walk-kinds.ps μ-walk t) walk.Pre
 
-abbrev walk-below : ℕ → In 4 walk-kinds.ps
-walk-below t = and 4 walk-kinds.ps (falls 4 walk-kinds.ps _<_ μ-walk t) walk.Pre
+abbrev walk-below : ℕ → In 5 walk-kinds.ps
+walk-below t = and 5 walk-kinds.ps (falls 5 walk-kinds.ps _<_ μ-walk t) walk.Pre
 
 -- what the calls ask and give
 abbrev visit-claims : ℕ → visit-lts.Claims
@@ -53,24 +53,25 @@ walk-claims t = (member-at-reads.Asked, member-at-reads.Learnt, field-reference-
 
 visit-slice-read-m : (t : ℕ) → visit-lts.Need-slice-read-m (visit-claims t) (visit-at t) visit.Post
 visit-slice-read-m t c =
-    let s = c .before .before .before .before .before in
+    let s = c .before .before .before .before .before .before in
     mark-in _ _ _ _ _ (s .pre .1 .0) (s .pre .1 .1)
 
 visit-slice-write-marks : (t : ℕ) → visit-lts.Need-slice-write-marks (visit-claims t) (visit-at t) visit.Post
 visit-slice-write-marks t c =
-    let s = c .before .before .before .before .before .before in
+    let s = c .before .before .before .before .before .before .before in
     mark-in _ _ _ _ _ (s .pre .1 .0) (s .pre .1 .1)
 
 visit-add-walk : (t : ℕ) → visit-lts.Need-add-walk (visit-claims t) (visit-at t) visit.Post
 visit-add-walk t c =
-    let s = c .before .before .before .before .before .before in
+    let s = c .before .before .before .before .before .before .before in
     record { fits = next-fits _ _ _ _ _ (s .pre .1 .0) (s .pre .1 .1) }
 
 visit-walk-requires : (t : ℕ) → visit-lts.Need-walk-requires (visit-claims t) (visit-at t) visit.Post
 visit-walk-requires t c κs =
     let i = c .before .before .before in
-    let s = i .before .before .before .before .before .before in
-    call-walk _ _ _ _ _ (s .pre .1 .0) (s .pre .1 .1) (i .if1 .taken) (s .pre .0)
+    let s = i .before .before .before .before .before .before .before in
+    let h = call-walk _ _ _ _ _ (s .pre .1 .0) (s .pre .1 .1) (i .if1 .taken) (s .pre .0) in
+    (h .0, (h .1, s .pre .1 .2))
 
 visit-visit-requires : (t : ℕ) → visit-lts.Need-visit-requires (visit-claims t) (visit-at t) visit.Post
 visit-visit-requires t c κs =
@@ -78,28 +79,28 @@ visit-visit-requires t c κs =
     let o = e .before .before in
     let w = o .before .before .before .before .before .before .before in
     let i = w .before .before .before .before in
-    let s = i .before .before .before .before .before .before in
-    let h = call-own _ _ _ _ _ (s .pre .1 .0) (s .pre .1 .1) (i .if1 .taken) (w .walk .ensures) (w .walk .kept .1 .1 .1 .0) (o .own-reference .ensures) (s .pre .0) in
-    (h .0, (follow-in (decode (s .args .t .now)) (e .r .given .1) (h .1 .0), h .1 .1))
+    let s = i .before .before .before .before .before .before .before in
+    let h = call-own _ _ _ _ _ (s .pre .1 .0) (s .pre .1 .1) (i .if1 .taken) (w .walk .ensures) (w .walk .kept .1 .1 .1 .1 .0) (o .own-reference .ensures) (s .pre .0) in
+    (h .0, (follow-in (decode (s .args .t .now)) (e .r .given .1) (h .1 .0), h .1 .1, s .pre .1 .2))
 
 visit-note-requires : (t : ℕ) → visit-lts.Need-note-requires (visit-claims t) (visit-at t) visit.Post
 visit-note-requires t c κs =
     let o = c .before .before .before .before in
     let w = o .before .before .before .before .before .before .before in
     let i = w .before .before .before .before in
-    let s = i .before .before .before .before .before .before in
-    let h = call-own _ _ _ _ _ (s .pre .1 .0) (s .pre .1 .1) (i .if1 .taken) (w .walk .ensures) (w .walk .kept .1 .1 .1 .0) (o .own-reference .ensures) (s .pre .0) in
+    let s = i .before .before .before .before .before .before .before in
+    let h = call-own _ _ _ _ _ (s .pre .1 .0) (s .pre .1 .1) (i .if1 .taken) (w .walk .ensures) (w .walk .kept .1 .1 .1 .1 .0) (o .own-reference .ensures) (s .pre .0) in
     call-note _ _ _ _ _ (h .1 .1)
 
 -- where the arms on the parent's name meet
 visit-join : (t : ℕ) (c : visit-lts.At-match-came (visit-claims t) (visit-at t) visit.Post)
     → let w = c .before .before .before .before .before .before .before .before in
-    let s = w .before .before .before .before .before .before .before .before .before .before in
-    Step (decode (s .args .t .now)) (c .before .own-reference .result) (w .walk .last .1 .1 .0) (w .walk .last .1 .1 .1 .0) (w .walk .last .1 .1 .1 .1 .0) (w .walk .result)
+    let s = w .before .before .before .before .before .before .before .before .before .before .before in
+    Step (decode (s .args .t .now)) (c .before .own-reference .result) (w .walk .last .1 .1 .1 .0) (w .walk .last .1 .1 .1 .1 .0) (w .walk .last .1 .1 .1 .1 .1 .0) (w .walk .result)
     (c .match .marks) (c .match .places) (c .match .buffer) (c .match .g)
 visit-join t c =
     ⊎-elim
-    (λ w. step-follow (w .13) (w .14) (w .15) (w .16) (w .1 .given .1) (w .6 .ensures) (w .6 .kept .1 .1 .0) (w .6 .kept .1 .1 .1 .0) (w .6 .kept .1 .1 .1 .1 .0))
+    (λ w. step-follow (w .13) (w .14) (w .15) (w .16) (w .1 .given .1) (w .6 .ensures) (w .6 .kept .1 .1 .1 .0) (w .6 .kept .1 .1 .1 .1 .0) (w .6 .kept .1 .1 .1 .1 .1 .0))
     (⊎-elim (λ w. step-wrong (w .7) (w .8) (w .9) (w .10) (w .1 .given .1) (w .4 .ensures) (w .4 .kept .1 .0)) (λ w. step-nowhere (w .2) (w .3) (w .4) (w .5) (w .1 .given .1)))
     (c .match .came)
 
@@ -108,13 +109,13 @@ visit-list-requires t c κs =
     let o = c .before .before .before in
     let w = o .before .before .before .before .before .before .before in
     let i = w .before .before .before .before in
-    let s = i .before .before .before .before .before .before in
+    let s = i .before .before .before .before .before .before .before in
     let j = visit-join t (c .before .before) in
-    call-list _ _ _ _ _ (s .pre .1 .0) (s .pre .1 .1) (i .if1 .taken) (w .walk .ensures) (w .walk .kept .1 .1 .1 .0) (o .own-reference .ensures) (j .made) (j .places-long)
+    call-list _ _ _ _ _ (s .pre .1 .0) (s .pre .1 .1) (i .if1 .taken) (w .walk .ensures) (w .walk .kept .1 .1 .1 .1 .0) (o .own-reference .ensures) (j .made) (j .places-long)
 
 visit-note-requires-2 : (t : ℕ) → visit-lts.Need-note-requires-2 (visit-claims t) (visit-at t) visit.Post
 visit-note-requires-2 t c κs =
-    let s = c .before .before .before .before .before .before .before .before in
+    let s = c .before .before .before .before .before .before .before .before .before in
     call-note _ _ _ _ _ (s .pre .1 .1)
 
 visit-same-length : (t : ℕ) → visit-lts.Need-same-length (visit-claims t) (visit-at t) visit.Post
@@ -122,21 +123,21 @@ visit-same-length t c =
     let l = c .before .before .before .before in
     let x = l .before .before .before in
     let w = x .before .before .before .before .before .before .before .before in
-    let s = w .before .before .before .before .before .before .before .before .before .before in
-    l .list .kept .1 .0 ∙ visit-join t (x) .marks-long ∙ w .walk .kept .1 .1 .0 ∙ length-set (s .args .marks .now) (s .args .d) 1
+    let s = w .before .before .before .before .before .before .before .before .before .before .before in
+    l .list .kept .1 .0 ∙ visit-join t (x) .marks-long ∙ w .walk .kept .1 .1 .1 .0 ∙ length-set (s .args .marks .now) (s .args .d) 1
 
 visit-same-length-2 : (t : ℕ) → visit-lts.Need-same-length-2 (visit-claims t) (visit-at t) visit.Post
 visit-same-length-2 t c =
     let l = c .before .before .before .before in
     let x = l .before .before .before in
     let w = x .before .before .before .before .before .before .before .before in
-    l .list .kept .1 .1 .0 ∙ visit-join t (x) .places-long ∙ w .walk .kept .1 .1 .1 .0
+    l .list .kept .1 .1 .0 ∙ visit-join t (x) .places-long ∙ w .walk .kept .1 .1 .1 .1 .0
 
 visit-same-length-3 : (t : ℕ) → visit-lts.Need-same-length-3 (visit-claims t) (visit-at t) visit.Post
 visit-same-length-3 t c =
     let x = c .before .before .before .before .before .before .before in
     let w = x .before .before .before .before .before .before .before .before in
-    visit-join t (x) .buffer-long ∙ w .walk .kept .1 .1 .1 .1 .0
+    visit-join t (x) .buffer-long ∙ w .walk .kept .1 .1 .1 .1 .1 .0
 
 visit-returns : (t : ℕ) → visit-lts.Need-returns (visit-claims t) (visit-at t) visit.Post
 visit-returns t c =
@@ -145,19 +146,19 @@ visit-returns t c =
     let o = x .before in
     let w = o .before .before .before .before .before .before .before in
     let i = w .before .before .before .before in
-    let s = i .before .before .before .before .before .before in
+    let s = i .before .before .before .before .before .before .before in
     let j = visit-join t (x) in
-    ret-new _ _ _ _ _ (s .pre .1 .0) (s .pre .1 .1) (i .if1 .taken) (w .walk .ensures) (w .walk .kept .1 .1 .1 .0) (o .own-reference .ensures) (j .made) (j .places-long) (l .list .ensures)
+    ret-new _ _ _ _ _ (s .pre .1 .0) (s .pre .1 .1) (i .if1 .taken) (w .walk .ensures) (w .walk .kept .1 .1 .1 .1 .0) (o .own-reference .ensures) (j .made) (j .places-long) (l .list .ensures)
 
 visit-returns-2 : (t : ℕ) → visit-lts.Need-returns-2 (visit-claims t) (visit-at t) visit.Post
 visit-returns-2 t c =
     let j = c .before .before .before .before in
-    let s = j .before .before .before .before .before .before .before in
+    let s = j .before .before .before .before .before .before .before .before in
     ret-open _ _ _ _ _ (s .pre .1 .0) (s .pre .1 .1) (j .if2 .taken) (c .before .before .note2 .ensures)
 
 visit-returns-3 : (t : ℕ) → visit-lts.Need-returns-3 (visit-claims t) (visit-at t) visit.Post
 visit-returns-3 t c =
-    let s = c .before .before .before .before .before .before .before in
+    let s = c .before .before .before .before .before .before .before .before in
     ret-listed _ _ _ _ _ (s .pre .1 .0) (s .pre .1 .1) (c .before .if1 .left) (c .if2 .left)
 
 walk-visit-requires : (t : ℕ) → walk-lts.Need-visit-requires (walk-claims t) (walk-at t) walk.Post
@@ -166,36 +167,36 @@ walk-visit-requires t c κs =
     let f = e .before .before in
     let i = f .before in
     let m = i .before in
-    let s = m .before .before .before .before .before in
-    let h = call-field _ _ _ _ _ (s .args .p) (sym (m .member-at .ensures) ∙ i .if1 .taken) (s .pre .1) (f .field-reference .ensures) (s .pre .0) in
-    (h .0, (follow-in (decode (s .args .t .now)) (e .r .given .1) (h .1 .0), h .1 .1))
+    let s = m .before .before .before .before .before .before in
+    let h = call-field _ _ _ _ _ (s .args .p) (sym (m .member-at .ensures) ∙ i .if1 .taken) (s .pre .1 .0) (f .field-reference .ensures) (s .pre .0) in
+    (h .0, (follow-in (decode (s .args .t .now)) (e .r .given .1) (h .1 .0), h .1 .1, s .pre .1 .1))
 
 walk-note-requires : (t : ℕ) → walk-lts.Need-note-requires (walk-claims t) (walk-at t) walk.Post
 walk-note-requires t c κs =
     let f = c .before .before .before .before in
     let i = f .before in
     let m = i .before in
-    let s = m .before .before .before .before .before in
-    let h = call-field _ _ _ _ _ (s .args .p) (sym (m .member-at .ensures) ∙ i .if1 .taken) (s .pre .1) (f .field-reference .ensures) (s .pre .0) in
+    let s = m .before .before .before .before .before .before in
+    let h = call-field _ _ _ _ _ (s .args .p) (sym (m .member-at .ensures) ∙ i .if1 .taken) (s .pre .1 .0) (f .field-reference .ensures) (s .pre .0) in
     call-note _ _ _ _ _ (h .1 .1)
 
 -- where the arms on the field meet
 walk-join : (t : ℕ) (c : walk-lts.At-match-came (walk-claims t) (walk-at t) walk.Post)
-    → let s = c .before .before .before .before .before .before .before .before in
+    → let s = c .before .before .before .before .before .before .before .before .before in
     Step (decode (s .args .t .now)) (c .before .field-reference .result) (s .args .marks .now) (s .args .places .now) (s .args .buffer .now) (s .args .a)
     (c .match .marks) (c .match .places) (c .match .buffer) (c .match .b)
 walk-join t c =
     ⊎-elim
-    (λ w. step-follow (w .13) (w .14) (w .15) (w .16) (w .1 .given .1) (w .6 .ensures) (w .6 .kept .1 .1 .0) (w .6 .kept .1 .1 .1 .0) (w .6 .kept .1 .1 .1 .1 .0))
+    (λ w. step-follow (w .13) (w .14) (w .15) (w .16) (w .1 .given .1) (w .6 .ensures) (w .6 .kept .1 .1 .1 .0) (w .6 .kept .1 .1 .1 .1 .0) (w .6 .kept .1 .1 .1 .1 .1 .0))
     (⊎-elim (λ w. step-wrong (w .7) (w .8) (w .9) (w .10) (w .1 .given .1) (w .4 .ensures) (w .4 .kept .1 .0)) (λ w. step-nowhere (w .2) (w .3) (w .4) (w .5) (w .1 .given .1)))
     (c .match .came)
 
 walk-add-walk : (t : ℕ) → walk-lts.Need-add-walk (walk-claims t) (walk-at t) walk.Post
 walk-add-walk t c =
     let m = c .before .before .before in
-    let s = m .before .before .before .before .before in
+    let s = m .before .before .before .before .before .before in
     let h = member-below (decode (s .args .t .now)) (s .args .p) (sym (m .member-at .ensures) ∙ c .before .before .if1 .taken) in
-    let w = s .pre .1 .few in omega arith
+    let w = s .pre .1 .0 .few in omega arith
 
 walk-walk-requires : (t : ℕ) → walk-lts.Need-walk-requires (walk-claims t) (walk-at t) walk.Post
 walk-walk-requires t c κs =
@@ -203,27 +204,28 @@ walk-walk-requires t c κs =
     let f = x .before in
     let i = f .before in
     let m = i .before in
-    let s = m .before .before .before .before .before in
+    let s = m .before .before .before .before .before .before in
     let j = walk-join t (x) in
-    call-rest _ _ _ _ _ (s .args .p) (sym (m .member-at .ensures) ∙ i .if1 .taken) (s .pre .1) (f .field-reference .ensures) (j .made) (j .places-long) (s .pre .0)
+    let h = call-rest _ _ _ _ _ (s .args .p) (sym (m .member-at .ensures) ∙ i .if1 .taken) (s .pre .1 .0) (f .field-reference .ensures) (j .made) (j .places-long) (s .pre .0) in
+    (h .0, (h .1, s .pre .1 .1))
 
 walk-same-length : (t : ℕ) → walk-lts.Need-same-length (walk-claims t) (walk-at t) walk.Post
 walk-same-length t c =
     let w = c .before .before .before .before .before .before in
     let x = w .before .before .before .before in
-    w .walk .kept .1 .1 .0 ∙ walk-join t (x) .marks-long
+    w .walk .kept .1 .1 .1 .0 ∙ walk-join t (x) .marks-long
 
 walk-same-length-2 : (t : ℕ) → walk-lts.Need-same-length-2 (walk-claims t) (walk-at t) walk.Post
 walk-same-length-2 t c =
     let w = c .before .before .before .before .before .before in
     let x = w .before .before .before .before in
-    w .walk .kept .1 .1 .1 .0 ∙ walk-join t (x) .places-long
+    w .walk .kept .1 .1 .1 .1 .0 ∙ walk-join t (x) .places-long
 
 walk-same-length-3 : (t : ℕ) → walk-lts.Need-same-length-3 (walk-claims t) (walk-at t) walk.Post
 walk-same-length-3 t c =
     let w = c .before .before .before .before .before .before in
     let x = w .before .before .before .before in
-    w .walk .kept .1 .1 .1 .1 .0 ∙ walk-join t (x) .buffer-long
+    w .walk .kept .1 .1 .1 .1 .1 .0 ∙ walk-join t (x) .buffer-long
 
 walk-returns : (t : ℕ) → walk-lts.Need-returns (walk-claims t) (walk-at t) walk.Post
 walk-returns t c =
@@ -232,9 +234,9 @@ walk-returns t c =
     let f = x .before in
     let i = f .before in
     let m = i .before in
-    let s = m .before .before .before .before .before in
+    let s = m .before .before .before .before .before .before in
     let j = walk-join t (x) in
-    ret-more _ _ _ _ _ (s .args .p) (sym (m .member-at .ensures) ∙ i .if1 .taken) (s .pre .1) (f .field-reference .ensures) (j .made) (j .places-long) (w .walk .ensures)
+    ret-more _ _ _ _ _ (s .args .p) (sym (m .member-at .ensures) ∙ i .if1 .taken) (s .pre .1 .0) (f .field-reference .ensures) (j .made) (j .places-long) (w .walk .ensures)
 
 walk-returns-2 : (t : ℕ) → walk-lts.Need-returns-2 (walk-claims t) (walk-at t) walk.Post
 walk-returns-2 t c = walked-end _ _ _ _ _ _ (sym (c .before .member-at .ensures) ∙ c .if1 .left)
@@ -243,11 +245,11 @@ pub +visit+walk-spec : {M : Type 1} → statement M
 +visit+walk-spec =
     close μ-visit μ-walk
     (λ t. visit-lts.spec (visit-claims t) (visit-at t) visit.Post (visit-slice-read-m t) (visit-slice-write-marks t)
-    (visit-add-walk t) (visit-walk-requires t) (λ c κs. tt) (λ c. search needs) (visit-visit-requires t) (λ c. search needs)
+    (visit-add-walk t) (visit-walk-requires t) (λ c κs. search needs) (λ c. search needs) (visit-visit-requires t) (λ c. search needs)
     (visit-note-requires t) (λ c. search needs) (visit-list-requires t) (visit-note-requires-2 t) (visit-same-length t)
     (visit-same-length-2 t) (visit-same-length-3 t) (visit-returns t) (λ c. search needs) (visit-returns-2 t)
     (visit-returns-3 t))
-    (λ t. walk-lts.spec (walk-claims t) (walk-at t) walk.Post (λ c κs. tt) (λ c κs. tt) (λ c. search needs)
+    (λ t. walk-lts.spec (walk-claims t) (walk-at t) walk.Post (λ c κs. search needs) (λ c κs. search needs) (λ c. search needs)
     (walk-visit-requires t) (λ c. search needs) (walk-note-requires t) (λ c. search needs) (walk-add-walk t)
     (walk-walk-requires t) (walk-same-length t) (walk-same-length-2 t) (walk-same-length-3 t) (walk-returns t)
     (walk-returns-2 t))

@@ -12,15 +12,15 @@ returns c =
 copy-listed-requires : tie.Need-copy-listed-requires
 copy-listed-requires c κs =
     let v′ = c .before .before .before .before .before .before .before .before .before .before .before in
-    let s = v′ .before .before .before .before .before .before .before .before .before in
+    let s = v′ .before .before .before .before .before .before .before .before .before .before in
     let v = v′ .visit-all in
-    call-copy _ _ _ _ _ _ _ (v .ensures) (c .before .before .if1 .left) (s .pre .0) (s .pre .2) _ (v .kept .1 .1 .0) (s .pre .3)
+    call-copy _ _ _ _ _ _ _ (v .ensures) (c .before .before .if1 .left) (s .pre .0) (s .pre .2) _ (v .kept .1 .1 .1 .0) (s .pre .3)
 
 returns-2 : tie.Need-returns-2
 returns-2 c =
     let i = c .before .before .before .before .before in
     let v′ = i .before .before .before .before .before .before .before .before .before in
-    let s = v′ .before .before .before .before .before .before .before .before .before in
+    let s = v′ .before .before .before .before .before .before .before .before .before .before in
     let v = v′ .visit-all in
     ret-copied _ _ _ _ _ _ _ (v .ensures) (i .if1 .left) (s .pre .0) (s .pre .2) _ _ _ (c .before .before .copy-listed .ensures)
 

@@ -10,13 +10,13 @@ visit-requires : tie.Need-visit-requires
 visit-requires c κs =
     let d = c .before .before .before .before in
     let r = d .before .before in
-    let s = r .before .before .before .before .before in
+    let s = r .before .before .before .before .before .before in
     let rs = decode (s .args .t .now) in
-    (follow-in rs (d .d .given .1) (rw (r .root-reference .ensures) (within-root rs (s .args .p) (s .pre .0))), s .pre .1)
+    (follow-in rs (d .d .given .1) (rw (r .root-reference .ensures) (within-root rs (s .args .p) (s .pre .0))), s .pre .1, s .pre .2)
 
 note-requires : tie.Need-note-requires
 note-requires c κs =
-    let s = c .before .before .before .before .before .before .before .before .before in
+    let s = c .before .before .before .before .before .before .before .before .before .before in
     call-note _ _ _ _ _ (s .pre .1)
 
 returns : tie.Need-returns
