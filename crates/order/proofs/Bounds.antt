@@ -1,11 +1,11 @@
 -- What a visit leaves unvisited, and how far the list and the faults can grow by it. Assumes nothing.
 use mathlib.Core.Path.{_≡_, refl, sym, _∙_, ap}
-use mathlib.Core.Bool.{Bool, true, false, _&&_, not}
+use mathlib.Core.Bool.{Bool, true, false, not}
 use mathlib.Core.List.{List, [], _∷_}
 use Prim.Native.Nat.{ℕ, zero, suc, _+_, _*_, _-_, _<_, _≤_, zero-le}
 use native.Mathlib.Nat.{le-refl}
 use native.Mathlib.Omega.{arith}
-use borrow.Author.Tests.{eqb-true, ltb-true, lt-ltb}
+use borrow.Author.Tests.{not-true, eqb-true, ltb-true, lt-ltb}
 use lib.Dec.{eqb, ltb}
 use lib.ListN.{length, getD, set, length-append, length-set}
 use Rattle.rules.specs.declared.Reference.{Reference}
@@ -18,10 +18,6 @@ use Rattle.rules.specs.Table.{at}
 use Rattle.rules.specs.DeclIdentifiers.{fieldReference, fieldReferences, references}
 use Rattle.rules.specs.declared.Record.{Record}
 use Rattle.order.specs.Contract.{memberAt}
-
-pub not-true : (b : Bool) → not b ≡ true → b ≡ false
-not-true true e = let z : _≡_ {A = ℕ} 0 1 = cc in absurd (omega arith)
-not-true false e = refl
 
 -- a mark set to anything but 0 leaves no more places unvisited
 pub unvisited-set : (l : List ℕ) (d v : ℕ) → unvisitedCount (set l d (suc v)) ≤ unvisitedCount l
@@ -100,6 +96,9 @@ visit-bounds f short (suc k) d s =
     enter-bounds (eqb (markOf s d) 0) (eqb (markOf s d) 1) (visit k f) (visit-bounds f short k) (f d) (short d) d s (eqb-true (markOf s d) 0)
 
 -- one step of the fields
+pub member-below : (rs : List Record) (p : ℕ) → memberAt rs p ≡ true → p < length rs
+member-below rs p e = ltb-true p (length rs) (and-true (ltb p (length rs)) (not (isDecl (at rs p .kind))) e .0)
+
 pub fields-one : (rs : List Record) (p : ℕ) → memberAt rs p ≡ true → fieldReferences rs p (length rs - p) ≡ fieldReference rs p ∷ fieldReferences rs (p + 1) (length rs - (p + 1))
 unfolding fieldReferences
 fields-one rs p e =

@@ -1,4 +1,5 @@
 pub mod Bounds
+pub mod Skips
 pub mod Ready
 pub mod Loop
 pub mod Accepts

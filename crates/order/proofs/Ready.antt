@@ -1,17 +1,17 @@
 -- What the cycle of visit and walk needs at each call and each return, over lists and numbers. Assumes nothing.
 use mathlib.Core.Path.{_≡_, refl, sym, _∙_, ap}
-use mathlib.Core.Bool.{Bool, true, false, _&&_, not}
+use mathlib.Core.Bool.{Bool, true, false, _&&_}
 use mathlib.Core.List.{List, [], _∷_, _++_, map, map-append}
 use Prim.Native.Nat.{ℕ, zero, suc, _+_, _*_, _-_, _^_, _<_, _≤_}
 use native.Mathlib.Nat.{lt-suc-self, add-zero, zero-add}
 use native.Mathlib.Omega.{arith}
-use borrow.Author.Tests.{ne-eqb, ltb-true}
-use lib.Dec.{eqb, ltb}
+use borrow.Author.Tests.{ne-eqb}
+use lib.Dec.{eqb}
 use lib.ListN.{length, getD, set, length-append, length-set, length-map}
 use lib.Seq.{sets}
 use Rattle.rules.specs.Choice.{if_then_else_}
 use Rattle.rules.specs.Kinds as kind
-use Rattle.rules.specs.Kinds.{is, isDecl, isNamedDecl, isPacketOrStruct}
+use Rattle.rules.specs.Kinds.{is, isNamedDecl, isPacketOrStruct}
 use Rattle.rules.specs.Table.{at, bit1, named}
 use Rattle.rules.specs.Places.{holdsAt, declNamed}
 use Rattle.rules.specs.Faults.{single, log}
@@ -30,9 +30,8 @@ use Rattle.faults.proofs.Laws.{noted-then, noted-one, total-after}
 use Rattle.table.proofs.Laws.{first-in}
 use Rattle.order.specs.declared.Progress.{Progress}
 use Rattle.order.specs.Reachability.{unvisitedCount}
-use Rattle.order.specs.Contract.{memberAt, Within, Held, Ready, Visited, Walked}
-use Rattle.table.proofs.Searches.{and-true}
-use Rattle.order.proofs.Bounds.{Bounds, unvisited-opened, getD-any, resolve-bounds, walk-bounds, visit-bounds, fields-one, fields-none, fields-length, references-length}
+use Rattle.order.specs.Contract.{memberAt, Within, Held, Ready, Visited, Walked, Skipped}
+use Rattle.order.proofs.Bounds.{Bounds, member-below, unvisited-opened, getD-any, resolve-bounds, walk-bounds, visit-bounds, fields-one, fields-none, fields-length, references-length}
 
 -- ---- how each step of the code changes the state that the slices hold
 
@@ -227,9 +226,6 @@ module _ (rs : List Record) where
       guard (length rs) (isNamedDecl (at rs p .kind)) (Follow p) _ l
       (guard (length rs) (is kind.test (at rs p)) (testReference rs p f) Nowhere (within-test p f) tt)
 
-pub member-below : (rs : List Record) (p : ℕ) → memberAt rs p ≡ true → p < length rs
-member-below rs p e = ltb-true p (length rs) (and-true (ltb p (length rs)) (not (isDecl (at rs p .kind))) e .0)
-
 -- ---- what the definitions do, a case at a time
 
 walk-last : (v : ℕ → State → State) (l : List Reference) (r : Reference) (s : State) → walk v (l ++ (r ∷ [])) s ≡ resolve v r (walk v l s)
@@ -284,9 +280,12 @@ module _ (rs : List Record) (m o f : List ℕ) (a : Progress) where
       (v k o₀ f₀ _ (omega arith) (w k o₀ f₀ (opened d s) (omega arith) (held-open rs o₀ f₀ s m o f a h d)))
       d z p q)
 
-  pub walked-end : (p : ℕ) → memberAt rs p ≡ false → Walked rs p m o f a m o f a
+  walked-skip : {p q : ℕ} {m′ o′ f′ : List ℕ} {b : Progress} → Skipped rs p q → Walked rs q m o f a m′ o′ f′ b → Walked rs p m o f a m′ o′ f′ b
+  walked-skip i w k o₀ f₀ s n h = rw (i .same (visit k (references rs)) s) (w k o₀ f₀ s n h)
+
+  pub walked-end : {p q : ℕ} → Skipped rs p q → memberAt rs q ≡ false → Walked rs p m o f a m o f a
   unfolding walk
-  walked-end p e k o₀ f₀ s n h = rw (fields-none rs p e) h
+  walked-end {p} {q} i e = walked-skip i (λ k o₀ f₀ s n h. rw (fields-none rs q e) h)
 
   walked-more : (p : ℕ) → memberAt rs p ≡ true
       → (m₁ o₁ f₁ : List ℕ) (b : Progress) → Visited rs (fieldReference rs p) m o f a m₁ o₁ f₁ b → unvisitedCount m₁ ≤ unvisitedCount m
@@ -370,28 +369,34 @@ module _ (rs : List Record) (m o f : List ℕ) (a : Progress) where
   pub ret-wrong : {r : Reference} {c p : ℕ} {f′ : List ℕ} {z : Progress} → r ≡ Wrong c p → Noted rs f a c p f′ z → Visited rs r m o f a m o f′ z
   ret-wrong {r} {c} {p} {f′} {z} re e = rw re (visited-wrong rs m o f a c p f′ z e)
 
-  -- a field stands at p
-  module _ (p : ℕ) (here : memberAt rs p ≡ true) (h : Ready rs m o f a (length rs - p) 0) where
+  -- the first field from p on that may refer to something stands at q
+  module _ {p q : ℕ} (i : Skipped rs p q) (here : memberAt rs q ≡ true) (h : Ready rs m o f a (length rs - p) 0) where
+    field-ready : Ready rs m o f a (length rs - (q + 1) + 1) 0
+    field-ready =
+        let l = member-below rs q here in
+        let n = i .on in
+        relax rs m o f a (length rs - p) 0 (length rs - (q + 1) + 1) 0 (omega arith) (omega arith) h
+
     visit-ready : Ready rs m o f a 1 0
-    visit-ready = let l = member-below rs p here in relax rs m o f a (length rs - p) 0 1 0 (omega arith) (omega arith) h
+    visit-ready = relax rs m o f a (length rs - (q + 1) + 1) 0 1 0 (omega arith) (omega arith) field-ready
 
-    pub call-field : {q : Reference} {x : ℕ} → q ≡ fieldReference rs p → unvisitedCount m * 2048 + 1 + (length rs - p) ≡ x
-        → (unvisitedCount m * 2048 < x) × (Within (length rs) q × Ready rs m o f a 1 0)
-    call-field q y = (omega arith, (rw q (within-field rs p), visit-ready))
+    pub call-field : {r : Reference} {x : ℕ} → r ≡ fieldReference rs q → unvisitedCount m * 2048 + 1 + (length rs - p) ≡ x
+        → (unvisitedCount m * 2048 < x) × (Within (length rs) r × Ready rs m o f a 1 0)
+    call-field e y = (omega arith, (rw e (within-field rs q), visit-ready))
 
-    module _ {q : Reference} (qe : q ≡ fieldReference rs p) {m₁ o₁ f₁ : List ℕ} {b : Progress} (v : Visited rs q m o f a m₁ o₁ f₁ b) (lo : length o₁ ≡ length o) where
+    module _ {r : Reference} (re : r ≡ fieldReference rs q) {m₁ o₁ f₁ : List ℕ} {b : Progress} (v : Visited rs r m o f a m₁ o₁ f₁ b) (lo : length o₁ ≡ length o) where
       pub call-rest : {x : ℕ} → unvisitedCount m * 2048 + 1 + (length rs - p) ≡ x
-          → (unvisitedCount m₁ * 2048 + 1 + (length rs - (p + 1)) < x) × Ready rs m₁ o₁ f₁ b (length rs - (p + 1)) 0
+          → (unvisitedCount m₁ * 2048 + 1 + (length rs - (q + 1)) < x) × Ready rs m₁ o₁ f₁ b (length rs - (q + 1)) 0
       call-rest y =
-          let l = member-below rs p here in
-          let n = visit-falls rs m o f a m₁ o₁ f₁ b q visit-ready v in (
-            omega arith,
-            after-visit rs m o f a m₁ o₁ f₁ b q (length rs - (p + 1)) 0 (relax rs m o f a (length rs - p) 0 (length rs - (p + 1) + 1) 0 (omega arith) (omega arith) h) v lo,
-          )
+          let l = member-below rs q here in
+          let n = i .on in
+          let w = visit-falls rs m o f a m₁ o₁ f₁ b r visit-ready v in
+          (omega arith, after-visit rs m o f a m₁ o₁ f₁ b r (length rs - (q + 1)) 0 field-ready v lo)
 
-      pub ret-more : {m₂ o₂ f₂ : List ℕ} {z : Progress} → Walked rs (p + 1) m₁ o₁ f₁ b m₂ o₂ f₂ z → Walked rs p m o f a m₂ o₂ f₂ z
+      pub ret-more : {m₂ o₂ f₂ : List ℕ} {z : Progress} → Walked rs (q + 1) m₁ o₁ f₁ b m₂ o₂ f₂ z → Walked rs p m o f a m₂ o₂ f₂ z
       ret-more {m₂} {o₂} {f₂} {z} w =
-          walked-more rs m o f a p here m₁ o₁ f₁ b (rw qe at v) (visit-falls rs m o f a m₁ o₁ f₁ b q visit-ready v) m₂ o₂ f₂ z w
+          walked-skip rs m o f a i
+          (walked-more rs m o f a q here m₁ o₁ f₁ b (rw re at v) (visit-falls rs m o f a m₁ o₁ f₁ b r visit-ready v) m₂ o₂ f₂ z w)
 
 -- where the arms of a match on r meet, it is taken up, and the slices are as long as they were
 pub record Step (rs : List Record) (r : Reference) (m o f : List ℕ) (a : Progress) (m′ o′ f′ : List ℕ) (a′ : Progress) : Type 0 where

@@ -1,12 +1,12 @@
 -- What the contracts of the visits say: which state the lent slices hold, and what the records copied are.
 use mathlib.Core.Path.{_≡_}
-use mathlib.Core.Bool.{Bool, _&&_, not}
+use mathlib.Core.Bool.{Bool, _&&_, _||_, not}
 use mathlib.Core.List.{List, [], _∷_, _++_, map, List·Memᴰ}
 use Prim.Native.Nat.{ℕ, _+_, _*_, _-_, _^_, _<_, _≤_}
-use lib.Dec.{ltb}
+use lib.Dec.{eqb, ltb, leb}
 use lib.ListN.{length, take, drop}
 use lib.Seq.{sets}
-use Rattle.rules.specs.Kinds.{isDecl}
+use Rattle.rules.specs.Kinds.{isDecl, array, typedef, groupField}
 use Rattle.rules.specs.Table.{decode, at}
 use Rattle.rules.specs.Bytes.{written}
 use Rattle.rules.specs.Places.{memberCount}
@@ -25,6 +25,14 @@ use Rattle.order.specs.Reachability.{unvisitedCount}
 -- a record stands at p, and it is no declaration
 abbrev pub memberAt : List Record → ℕ → Bool
 memberAt rs p = ltb p (length rs) && not (isDecl (at rs p .kind))
+
+-- an array, a Typedef or a Group field may refer to a declaration
+abbrev pub refers : ℕ → Bool
+refers k = eqb k array || leb typedef k && leb k groupField
+
+-- a record stands at p, it is no declaration, and its kind refers to nothing
+abbrev pub refersNowhere : List Record → ℕ → Bool
+refersNowhere rs p = memberAt rs p && not (refers (at rs p .kind))
 
 -- the slices and the counts hold the state s; the places and the fault buffer were o₀ and f₀
 pub record Held (rs : List Record) (o₀ f₀ : List ℕ) (s : State) (marks places buffer : List ℕ) (a : Progress) : Type 0 where
@@ -60,6 +68,11 @@ abbrev pub Walked : List Record → ℕ → List ℕ → List ℕ → List ℕ �
 Walked rs p m o f a m′ o′ f′ a′ =
     (k : ℕ) (o₀ f₀ : List ℕ) (s : State) → unvisitedCount m < k → Held rs o₀ f₀ s m o f a
     → Held rs o₀ f₀ (walk (visit k (references rs)) (fieldReferences rs p (length rs - p)) s) m′ o′ f′ a′
+
+-- the fields from p up to q refer to nothing: to walk from p is to walk from q
+pub record Skipped (rs : List Record) (p q : ℕ) : Type 0 where
+  pub on : p ≤ q
+  pub same : (v : ℕ → State → State) (s : State) → walk v (fieldReferences rs p (length rs - p)) s ≡ walk v (fieldReferences rs q (length rs - q)) s
 
 -- the bytes of the declarations at these places, in this order, unchanged
 unfoldable pub declBytes : List ℕ → ℕ → List ℕ

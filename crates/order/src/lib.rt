@@ -20,7 +20,7 @@ ghost use Rattle.rules.specs.Faults.{single, log};
 ghost use Rattle.rules.specs.DeclIdentifiers.{visited, rootReference, allRecords};
 ghost use Rattle.faults.specs.Notes.{noted};
 ghost use Rattle.names.specs.Starts.{Starts};
-ghost use Rattle.order.specs.Contract.{memberAt, Ready, Visited, Walked, Held, allBytes, Placed, Checked};
+ghost use Rattle.order.specs.Contract.{memberAt, refersNowhere, Ready, Visited, Walked, Skipped, Held, allBytes, Placed, Checked};
 
 // How many places are listed, and the faults found.
 struct Progress {
@@ -41,6 +41,26 @@ fn member_at(t: &[u8], p: usize) -> bool
     let k = table::kind(t, p);
     let n = table::count(t);
     (p < n) & !((1 <= k) & (k <= 7))
+}
+
+// Whether a record stands at p that is no declaration and of a kind that refers to nothing.
+fn refers_nowhere(t: &[u8], p: usize) -> bool
+    ensures { λ r. ⌜ r ≡ refersNowhere (decode (now (t .entry))) p ⌝ }
+{
+    let k = table::kind(t, p);
+    member_at(t, p) & !((k == 30) | ((33 <= k) & (k <= 34)))
+}
+
+// The first place from p on that is not such a record. This loop saves the walk a call for each of them.
+fn next_reference(t: &[u8], p: usize) -> usize
+    requires { ⌜ length (decode (now t)) ≤ 1600 ⌝ }
+    ensures { λ r. ⌜ Skipped (decode (now (t .entry))) p r ⌝ }
+{
+    let mut q = p;
+    while refers_nowhere(t, q) {
+        q += 1;
+    }
+    q
 }
 
 // One fault more, at the record at p.
@@ -116,14 +136,15 @@ fn walk(
     requires { ⌜ Ready (decode (now t)) (now marks) (now places) (now buffer) a (length (decode (now t)) - p) 0 × Starts (decode (now t)) (now starts) ⌝ }
     ensures { λ z. ⌜ Walked (decode (now (t .entry))) p (now (marks .entry)) (now (places .entry)) (now (buffer .entry)) a (now (marks .exit)) (now (places .exit)) (now (buffer .exit)) z ⌝ }
 {
-    if member_at(t, p) {
-        let r = field_reference(t, starts, p);
+    let q = next_reference(t, p);
+    if member_at(t, q) {
+        let r = field_reference(t, starts, q);
         let b = match r {
             Reference::Follow(e) => visit(t, starts, e, marks, places, buffer, a),
-            Reference::Wrong(code, q) => note(t, buffer, a, code, q),
+            Reference::Wrong(code, i) => note(t, buffer, a, code, i),
             Reference::Nowhere => a,
         };
-        walk(t, starts, p + 1, marks, places, buffer, b)
+        walk(t, starts, q + 1, marks, places, buffer, b)
     } else {
         a
     }

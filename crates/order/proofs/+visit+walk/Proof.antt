@@ -11,13 +11,15 @@ use borrow.Fn.Kinds.{In}
 use borrow.Fn.PlainCycle.{Measures, is, falls, and}
 use Rattle.rules.specs.Table.{decode}
 use Rattle.order.specs.Reachability.{unvisitedCount}
-use Rattle.order.proofs.Ready.{follow-in, Step, step-follow, step-wrong, step-nowhere, member-below, call-note, mark-in, next-fits, call-walk, call-own, call-list, ret-new, ret-open, ret-listed, call-field, call-rest, ret-more, walked-end}
+use Rattle.order.proofs.Bounds.{member-below}
+use Rattle.order.proofs.Ready.{follow-in, Step, step-follow, step-wrong, step-nowhere, call-note, mark-in, next-fits, call-walk, call-own, call-list, ret-new, ret-open, ret-listed, call-field, call-rest, ret-more, walked-end}
 use Rattle.order.proofs.visit.Reads as visit
 use Rattle.order.proofs.visit.Kinds as visit-kinds
 use Rattle.order.proofs.+visit+walk.Lts-visit as visit-lts
 use Rattle.order.proofs.walk.Reads as walk
 use Rattle.order.proofs.walk.Kinds as walk-kinds
 use Rattle.order.proofs.+visit+walk.Lts-walk as walk-lts
+use Rattle.order.proofs.next_reference.Reads as next-reference-reads
 use Rattle.order.proofs.member_at.Reads as member-at-reads
 use Rattle.order.proofs.references.field_reference.Reads as field-reference-reads
 use Rattle.order.proofs.list.Reads as list-reads
@@ -49,7 +51,7 @@ abbrev visit-claims : ℕ → visit-lts.Claims
 visit-claims t = (walk-below t, walk.Post, own-reference-reads.Asked, own-reference-reads.Learnt, visit-below t, visit.Post, note-reads.Asked, note-reads.Learnt, list-reads.Asked, list-reads.Learnt)
 
 abbrev walk-claims : ℕ → walk-lts.Claims
-walk-claims t = (member-at-reads.Asked, member-at-reads.Learnt, field-reference-reads.Asked, field-reference-reads.Learnt, visit-below t, visit.Post, note-reads.Asked, note-reads.Learnt, walk-below t, walk.Post)
+walk-claims t = (next-reference-reads.Asked, next-reference-reads.Learnt, member-at-reads.Asked, member-at-reads.Learnt, field-reference-reads.Asked, field-reference-reads.Learnt, visit-below t, visit.Post, note-reads.Asked, note-reads.Learnt, walk-below t, walk.Post)
 
 visit-slice-read-m : (t : ℕ) → visit-lts.Need-slice-read-m (visit-claims t) (visit-at t) visit.Post
 visit-slice-read-m t c =
@@ -161,14 +163,18 @@ visit-returns-3 t c =
     let s = c .before .before .before .before .before .before .before .before in
     ret-listed _ _ _ _ _ (s .pre .1 .0) (s .pre .1 .1) (c .before .if1 .left) (c .if2 .left)
 
+walk-next-reference-requires : (t : ℕ) → walk-lts.Need-next-reference-requires (walk-claims t) (walk-at t) walk.Post
+walk-next-reference-requires t c κs = c .before .before .before .before .before .pre .1 .0 .few
+
 walk-visit-requires : (t : ℕ) → walk-lts.Need-visit-requires (walk-claims t) (walk-at t) walk.Post
 walk-visit-requires t c κs =
     let e = c .before .before .before .before in
     let f = e .before .before in
     let i = f .before in
     let m = i .before in
-    let s = m .before .before .before .before .before .before in
-    let h = call-field _ _ _ _ _ (s .args .p) (sym (m .member-at .ensures) ∙ i .if1 .taken) (s .pre .1 .0) (f .field-reference .ensures) (s .pre .0) in
+    let n = m .before in
+    let s = n .before .before .before .before .before .before in
+    let h = call-field _ _ _ _ _ (n .next-reference .ensures) (sym (m .member-at .ensures) ∙ i .if1 .taken) (s .pre .1 .0) (f .field-reference .ensures) (s .pre .0) in
     (h .0, (follow-in (decode (s .args .t .now)) (e .r .given .1) (h .1 .0), h .1 .1, s .pre .1 .1))
 
 walk-note-requires : (t : ℕ) → walk-lts.Need-note-requires (walk-claims t) (walk-at t) walk.Post
@@ -176,13 +182,14 @@ walk-note-requires t c κs =
     let f = c .before .before .before .before in
     let i = f .before in
     let m = i .before in
-    let s = m .before .before .before .before .before .before in
-    let h = call-field _ _ _ _ _ (s .args .p) (sym (m .member-at .ensures) ∙ i .if1 .taken) (s .pre .1 .0) (f .field-reference .ensures) (s .pre .0) in
+    let n = m .before in
+    let s = n .before .before .before .before .before .before in
+    let h = call-field _ _ _ _ _ (n .next-reference .ensures) (sym (m .member-at .ensures) ∙ i .if1 .taken) (s .pre .1 .0) (f .field-reference .ensures) (s .pre .0) in
     call-note _ _ _ _ _ (h .1 .1)
 
 -- where the arms on the field meet
 walk-join : (t : ℕ) (c : walk-lts.At-match-came (walk-claims t) (walk-at t) walk.Post)
-    → let s = c .before .before .before .before .before .before .before .before .before in
+    → let s = c .before .before .before .before .before .before .before .before .before .before in
     Step (decode (s .args .t .now)) (c .before .field-reference .result) (s .args .marks .now) (s .args .places .now) (s .args .buffer .now) (s .args .a)
     (c .match .marks) (c .match .places) (c .match .buffer) (c .match .b)
 walk-join t c =
@@ -194,8 +201,9 @@ walk-join t c =
 walk-add-walk : (t : ℕ) → walk-lts.Need-add-walk (walk-claims t) (walk-at t) walk.Post
 walk-add-walk t c =
     let m = c .before .before .before in
-    let s = m .before .before .before .before .before .before in
-    let h = member-below (decode (s .args .t .now)) (s .args .p) (sym (m .member-at .ensures) ∙ c .before .before .if1 .taken) in
+    let n = m .before in
+    let s = n .before .before .before .before .before .before in
+    let h = member-below (decode (s .args .t .now)) (n .next-reference .result) (sym (m .member-at .ensures) ∙ c .before .before .if1 .taken) in
     let w = s .pre .1 .0 .few in omega arith
 
 walk-walk-requires : (t : ℕ) → walk-lts.Need-walk-requires (walk-claims t) (walk-at t) walk.Post
@@ -204,9 +212,10 @@ walk-walk-requires t c κs =
     let f = x .before in
     let i = f .before in
     let m = i .before in
-    let s = m .before .before .before .before .before .before in
+    let n = m .before in
+    let s = n .before .before .before .before .before .before in
     let j = walk-join t (x) in
-    let h = call-rest _ _ _ _ _ (s .args .p) (sym (m .member-at .ensures) ∙ i .if1 .taken) (s .pre .1 .0) (f .field-reference .ensures) (j .made) (j .places-long) (s .pre .0) in
+    let h = call-rest _ _ _ _ _ (n .next-reference .ensures) (sym (m .member-at .ensures) ∙ i .if1 .taken) (s .pre .1 .0) (f .field-reference .ensures) (j .made) (j .places-long) (s .pre .0) in
     (h .0, (h .1, s .pre .1 .1))
 
 walk-same-length : (t : ℕ) → walk-lts.Need-same-length (walk-claims t) (walk-at t) walk.Post
@@ -234,12 +243,13 @@ walk-returns t c =
     let f = x .before in
     let i = f .before in
     let m = i .before in
-    let s = m .before .before .before .before .before .before in
+    let n = m .before in
+    let s = n .before .before .before .before .before .before in
     let j = walk-join t (x) in
-    ret-more _ _ _ _ _ (s .args .p) (sym (m .member-at .ensures) ∙ i .if1 .taken) (s .pre .1 .0) (f .field-reference .ensures) (j .made) (j .places-long) (w .walk .ensures)
+    ret-more _ _ _ _ _ (n .next-reference .ensures) (sym (m .member-at .ensures) ∙ i .if1 .taken) (s .pre .1 .0) (f .field-reference .ensures) (j .made) (j .places-long) (w .walk .ensures)
 
 walk-returns-2 : (t : ℕ) → walk-lts.Need-returns-2 (walk-claims t) (walk-at t) walk.Post
-walk-returns-2 t c = walked-end _ _ _ _ _ _ (sym (c .before .member-at .ensures) ∙ c .if1 .left)
+walk-returns-2 t c = walked-end _ _ _ _ _ (c .before .before .next-reference .ensures) (sym (c .before .member-at .ensures) ∙ c .if1 .left)
 
 pub +visit+walk-spec : {M : Type 1} → statement M
 +visit+walk-spec =
@@ -249,7 +259,7 @@ pub +visit+walk-spec : {M : Type 1} → statement M
     (visit-note-requires t) (λ c. search needs) (visit-list-requires t) (visit-note-requires-2 t) (visit-same-length t)
     (visit-same-length-2 t) (visit-same-length-3 t) (visit-returns t) (λ c. search needs) (visit-returns-2 t)
     (visit-returns-3 t))
-    (λ t. walk-lts.spec (walk-claims t) (walk-at t) walk.Post (λ c κs. search needs) (λ c κs. search needs) (λ c. search needs)
+    (λ t. walk-lts.spec (walk-claims t) (walk-at t) walk.Post (walk-next-reference-requires t) (λ c κs. search needs) (λ c κs. search needs) (λ c. search needs)
     (walk-visit-requires t) (λ c. search needs) (walk-note-requires t) (λ c. search needs) (walk-add-walk t)
     (walk-walk-requires t) (walk-same-length t) (walk-same-length-2 t) (walk-same-length-3 t) (walk-returns t)
     (walk-returns-2 t))
