@@ -1,3 +1,4 @@
+pub mod Refers
 pub mod Bounds
 pub mod Skips
 pub mod Ready

@@ -1,38 +1,31 @@
 -- `order::references::field_reference` meets its contract. Assumes nothing.
 use borrow.Author.Needs.{needs}
-use borrow.Author.Tests.{eq-eqb, ne-eqb}
-use Rattle.rules.specs.DeclIdentifiers.{fieldReference}
+use mathlib.Core.Path.{_∙_}
+use Rattle.order.proofs.Refers.{field-group, field-type, field-array, field-nowhere}
 use Rattle.order.proofs.references.field_reference.Statement.{statement}
 use Rattle.order.proofs.references.field_reference.Tie as tie
 
 returns : tie.Need-returns
-unfolding fieldReference
 returns c =
-    rw (← c .before .before .before .before .at .ensures, eq-eqb _ _ (c .before .before .if1 .taken), ← c .before .decl-named .ensures) (c .group-reference .ensures)
+    let i = c .before .before in
+    c .group-reference .ensures ∙ field-group _ _ (i .before .before .at .ensures) (c .before .decl-named .ensures) (i .if1 .taken)
 
 returns-2 : tie.Need-returns-2
-unfolding fieldReference
 returns-2 c =
-    let i = c .before .before .before .before in
-    let a = i .before .before in
-    rw (← a .at .ensures, ne-eqb _ _ (i .if1 .left), eq-eqb _ _ (c .before .before .if2 .taken), ← c .before .decl-named2 .ensures) (c .type-reference .ensures)
+    let j = c .before .before in
+    c .type-reference .ensures ∙ field-type _ _ (j .before .before .before .before .at .ensures) (c .before .decl-named2 .ensures) (j .if2 .taken)
 
 returns-3 : tie.Need-returns-3
-unfolding fieldReference
 returns-3 c =
-    let x = c .before .before .before in
-    let j = x .before .before .before in
-    let i = j .before .before in
-    let a = i .before .before in
-    rw (← a .at .ensures, ne-eqb _ _ (i .if1 .left), ne-eqb _ _ (j .if2 .left), x .if3 .taken, ← c .before .decl-named3 .ensures) (c .type-reference2 .ensures)
+    let j = c .before .before .before in
+    let i = j .before .before .before .before .before in
+    rw (c .type-reference2 .ensures) (field-array _ _ (i .before .before .at .ensures) (c .before .decl-named3 .ensures) (j .if3 .taken))
 
 returns-4 : tie.Need-returns-4
-unfolding fieldReference
 returns-4 c =
     let j = c .before .before .before in
     let i = j .before .before in
-    let a = i .before .before in
-    rw (← a .at .ensures, ne-eqb _ _ (i .if1 .left), ne-eqb _ _ (j .if2 .left), c .if3 .left)
+    field-nowhere _ _ (i .before .before .at .ensures) (i .if1 .left) (j .if2 .left) (c .if3 .left)
 
 pub field-reference-spec : {M : Type 1} → statement M
 field-reference-spec =

@@ -1,26 +1,23 @@
 -- `order::references::root_reference` meets its contract. Assumes nothing.
 use borrow.Author.Needs.{needs}
-use borrow.Author.Tests.{eq-eqb, ne-eqb}
-use Rattle.rules.specs.DeclIdentifiers.{rootReference}
+use mathlib.Core.Path.{_∙_}
+use Rattle.order.proofs.Refers.{root-decl, root-test, root-nowhere}
 use Rattle.order.proofs.references.root_reference.Statement.{statement}
 use Rattle.order.proofs.references.root_reference.Tie as tie
 
 returns : tie.Need-returns
-unfolding rootReference
-returns c = rw (← c .before .before .before .at .ensures, c .if1 .taken)
+returns c = root-decl _ _ (c .before .before .before .at .ensures) (c .if1 .taken)
 
 returns-2 : tie.Need-returns-2
-unfolding rootReference
 returns-2 c =
-    let i = c .before .before .before .before in
-    let a = i .before .before .before in
-    rw (← a .at .ensures, i .if1 .left, eq-eqb _ _ (c .before .before .if2 .taken), ← c .before .decl-named .ensures) (c .test-reference .ensures)
+    let j = c .before .before in
+    let a = j .before .before .before .before .before in
+    c .test-reference .ensures ∙ root-test _ _ (a .at .ensures) (c .before .decl-named .ensures) (j .if2 .taken)
 
 returns-3 : tie.Need-returns-3
-unfolding rootReference
 returns-3 c =
-    let a = c .before .before .before .before .before in
-    rw (← a .at .ensures, c .before .before .if1 .left, ne-eqb _ _ (c .if2 .left))
+    let i = c .before .before in
+    root-nowhere _ _ (i .before .before .before .at .ensures) (i .if1 .left) (c .if2 .left)
 
 pub root-reference-spec : {M : Type 1} → statement M
 root-reference-spec =
