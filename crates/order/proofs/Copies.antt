@@ -6,7 +6,7 @@ use native.Mathlib.Nat.{zero-add, suc-add}
 use native.Mathlib.Numerals.{add-one}
 use native.Mathlib.Omega.{arith}
 use lib.ListN.{length, getD, take, drop, length-append, length-drop, take-append-drop, List·getD-append}
-use lib.Seq.{length-take-le, take-at, drop-at, take-suc, take-add, drop-append-le, drop-append-add, drop-drop, getD-take}
+use lib.Seq.{length-take-le, take-at, drop-at, take-suc, take-add, drop-append-le, getD-take}
 use Rattle.rules.specs.Bytes.{numberAt, written}
 use Rattle.rules.specs.Table.{recordAt, records, decode}
 use Rattle.rules.specs.Places.{first, holdsAt, firstFrom, memberCount}
@@ -16,7 +16,7 @@ use Rattle.rules.specs.declared.Found.{Found}
 use Rattle.rules.specs.declared.Found.the-variants.{At, Nothing}
 use Rattle.rules.specs.declared.Target.the-variants.{Decl}
 use Rattle.table.proofs.Laws.{length-decode, first-in}
-use Rattle.store.proofs.Laws.{length-written}
+use Rattle.store.proofs.Laws.{length-written, written-more}
 use Rattle.order.specs.Contract.{declBytes, allBytes, Placed}
 use Rattle.order.proofs.Sorted.{mem-at}
 
@@ -137,12 +137,6 @@ all-decode t (d ∷ l) h =
 
 -- ---- the loop that copies
 
-written-more : (b xs ys : List ℕ) (n : ℕ) → length xs ≡ n → written (written b 0 xs) n ys ≡ written b 0 (xs ++ ys)
-written-more b xs ys n e =
-    let past : drop (n + length ys) (xs ++ drop n b) ≡ drop (n + length ys) b
-    = subst (λ (k : ℕ). drop (k + length ys) (xs ++ drop n b) ≡ drop (length ys) (drop n b)) e (drop-append-add xs (drop n b) (length ys)) ∙ drop-drop (length ys) n b in
-    rw (zero-add (length xs), e, take-at xs (drop n b) n e, past, zero-add (length (xs ++ ys)), length-append xs ys, e)
-
 -- the declarations at the first i places are copied
 pub record Copied (t places out₀ out : List ℕ) (n count i : ℕ) : Type 0 where
   pub below : i ≤ n
@@ -174,10 +168,14 @@ module _ (t places out₀ : List ℕ) (n : ℕ) (short : n ≤ length places) (h
       omega (arith, z, h .fits, length-append (allRecords (decode t) (take i places)) (allRecords (decode t) (take (n - i) (drop i places))))
 
   module _ (out : List ℕ) (count i : ℕ) (c : Copied t places out₀ out n count i) where
+    front : 0 + length (allBytes t (take i places)) ≡ 40 * count
+    front = omega (arith, all-length t (take i places) (before-in i (c .below)), c .counted)
+
+    room : 0 + length (allBytes t (take i places)) ≤ length out₀
+    room = omega (arith, front, c .counted, fits-at i (c .below))
+
     pub copied-long : length out ≡ length out₀
-    copied-long =
-        ap length (c .made)
-        ∙ length-written out₀ 0 (allBytes t (take i places)) (omega (arith, all-length t (take i places) (before-in i (c .below)), fits-at i (c .below)))
+    copied-long = ap length (c .made) ∙ length-written out₀ 0 (allBytes t (take i places)) room
 
     module _ (l : i < n) (m : ℕ) (me : m ≡ 1 + memberCount (decode t) (getD places i 0)) where
       turn-count : count + m ≡ length (allRecords (decode t) (take (i + 1) places))
@@ -200,8 +198,8 @@ module _ (t places out₀ : List ℕ) (n : ℕ) (short : n ≤ length places) (h
         counted = turn-count;
         made =
             let s : take (i + 1) places ≡ take i places ++ getD places i 0 ∷ [] = ap (λ (k : ℕ). take k places) (add-one i) ∙ take-suc places i 0 (omega arith) in
-            e ∙ rw (me, c .made, s, bytes-snoc t (take i places) (getD places i 0))
-            (written-more out₀ (allBytes t (take i places)) (declBytes t (getD places i 0)) (40 * count) (all-length t (take i places) (before-in i (c .below)) ∙ ap (λ (k : ℕ). 40 * k) (sym (c .counted))));
+            e ∙ rw (me, c .made, s, bytes-snoc t (take i places) (getD places i 0), ← front)
+            (written-more out₀ (allBytes t (take i places)) (declBytes t (getD places i 0)) 0 room);
       }
 
     pub copy-end : n ≤ i → (count ≡ length (allRecords (decode t) (take n places))) × (out ≡ written out₀ 0 (allBytes t (take n places)))
