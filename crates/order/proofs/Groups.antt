@@ -1,28 +1,27 @@
 -- The listed table of an accepted one with unique names: its names are unique, its fields stand in declarations, and every group
 -- stands before the declaration that holds a field of it. Assumes nothing.
 use mathlib.Core.Path.{_≡_, refl, sym, _∙_, ap, subst}
-use mathlib.Core.Bool.{Bool, true, false}
+use mathlib.Core.Bool.{true, false}
 use mathlib.Core.List.{List, [], _∷_, _++_}
 use Prim.Native.Nat.{ℕ, zero, suc, _+_, _-_, _<_, _≤_}
 use native.Mathlib.Omega.{arith}
 use native.Mathlib.Nat.{add-zero, zero-add}
-use native.Mathlib.Decide.{decLt, ℕ-discrete}
-use borrow.Author.Tests.{eqb-true, eq-eqb, leb-true, le-leb}
-use lib.Dec.{eqb, leb}
+use native.Mathlib.Decide.{decLt}
+use borrow.Author.Tests.{eqb-true, eq-eqb}
+use lib.Dec.{eqb}
 use lib.ListN.{length, getD, take, length-append, List·getD-append}
 use lib.Seq.{getD-append-add}
 use Rattle.rules.specs.Kinds as kind
 use Rattle.rules.specs.Kinds.{is, isDecl, isNamedDecl}
 use Rattle.rules.specs.Table.{at, blank}
-use Rattle.rules.specs.Places.{nearest, first, holdsAt, declNamed, memberCount}
+use Rattle.rules.specs.Places.{nearest, holdsAt, declNamed, memberCount}
 use Rattle.rules.specs.DeclIdentifiers.{declRecords, allRecords, order, ordered}
 use Rattle.rules.specs.Ordering.{Declared, Named, UniqueNames, HeldBy, by-group, Listing, Accepts}
 use Rattle.rules.specs.declared.Record.{Record}
 use Rattle.rules.specs.declared.Found.the-variants.{At}
 use Rattle.rules.specs.declared.Target.the-variants.{Decl, DeclNamed}
-use Rattle.table.proofs.Laws.{first-in}
 use Rattle.order.specs.GroupsFirst.{Earlier, GroupsFirst}
-use Rattle.table.proofs.Searches.{false-true, and-true, named-is-decl, first-is, first-some, first-only, nearest-is}
+use Rattle.table.proofs.Searches.{false-true, and-true, named-is-decl, first-only, nearest-is}
 use Rattle.order.proofs.Sorted.{mem-at}
 use Rattle.order.proofs.Promise.{promise}
 use Rattle.order.proofs.Copies.{decl-length, count-fits}

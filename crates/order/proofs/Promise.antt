@@ -15,7 +15,7 @@ use Rattle.rules.specs.Choice.{if_then_else_}
 use Rattle.rules.specs.Kinds as kind
 use Rattle.rules.specs.Kinds.{is, isDecl, isNamedDecl}
 use Rattle.rules.specs.Table.{decode, at, bit1, named}
-use Rattle.rules.specs.Places.{first, holdsAt, declNamed}
+use Rattle.rules.specs.Places.{holdsAt, declNamed}
 use Rattle.rules.specs.Visits.{PlaceFault, visitAll}
 use Rattle.rules.specs.DeclIdentifiers.{groupReference, typeReference, parentReference, testReference, fieldReference, fieldReferences, ownReference, references, rootReference, rootReferences, visited, faultOf, pass2, order}
 use Rattle.rules.specs.Ordering.{Declared, Named, UniqueNames, HeldBy, isTyped, isFollowedType, hasParent, Allowed, Follows, by-group, by-type, by-parent, Sequence, last, next, Accepts, OrderingPromise, Demand3}

@@ -53,21 +53,6 @@ visit-claims t = (walk-below t, walk.Post, own-reference-reads.Asked, own-refere
 abbrev walk-claims : ℕ → walk-lts.Claims
 walk-claims t = (next-reference-reads.Asked, next-reference-reads.Learnt, member-at-reads.Asked, member-at-reads.Learnt, field-reference-reads.Asked, field-reference-reads.Learnt, visit-below t, visit.Post, note-reads.Asked, note-reads.Learnt, walk-below t, walk.Post)
 
-visit-slice-read-m : (t : ℕ) → visit-lts.Need-slice-read-m (visit-claims t) (visit-at t) visit.Post
-visit-slice-read-m t c =
-    let s = c .before .before .before .before .before .before in
-    mark-in _ _ _ _ _ (s .pre .1 .0) (s .pre .1 .1)
-
-visit-slice-write-marks : (t : ℕ) → visit-lts.Need-slice-write-marks (visit-claims t) (visit-at t) visit.Post
-visit-slice-write-marks t c =
-    let s = c .before .before .before .before .before .before .before in
-    mark-in _ _ _ _ _ (s .pre .1 .0) (s .pre .1 .1)
-
-visit-add-walk : (t : ℕ) → visit-lts.Need-add-walk (visit-claims t) (visit-at t) visit.Post
-visit-add-walk t c =
-    let s = c .before .before .before .before .before .before .before in
-    record { fits = next-fits _ _ _ _ _ (s .pre .1 .0) (s .pre .1 .1) }
-
 visit-walk-requires : (t : ℕ) → visit-lts.Need-walk-requires (visit-claims t) (visit-at t) visit.Post
 visit-walk-requires t c κs =
     let i = c .before .before .before in
@@ -82,7 +67,8 @@ visit-visit-requires t c κs =
     let w = o .before .before .before .before .before .before .before in
     let i = w .before .before .before .before in
     let s = i .before .before .before .before .before .before .before in
-    let h = call-own _ _ _ _ _ (s .pre .1 .0) (s .pre .1 .1) (i .if1 .taken) (w .walk .ensures) (w .walk .kept .1 .1 .1 .1 .0) (o .own-reference .ensures) (s .pre .0) in
+    let h = call-own _ _ _ _ _ (s .pre .1 .0) (s .pre .1 .1) (i .if1 .taken)
+    (w .walk .ensures) (w .walk .kept .1 .1 .1 .1 .0) (o .own-reference .ensures) (s .pre .0) in
     (h .0, (follow-in (decode (s .args .t .now)) (e .r .given .1) (h .1 .0), h .1 .1, s .pre .1 .2))
 
 visit-note-requires : (t : ℕ) → visit-lts.Need-note-requires (visit-claims t) (visit-at t) visit.Post
@@ -91,7 +77,8 @@ visit-note-requires t c κs =
     let w = o .before .before .before .before .before .before .before in
     let i = w .before .before .before .before in
     let s = i .before .before .before .before .before .before .before in
-    let h = call-own _ _ _ _ _ (s .pre .1 .0) (s .pre .1 .1) (i .if1 .taken) (w .walk .ensures) (w .walk .kept .1 .1 .1 .1 .0) (o .own-reference .ensures) (s .pre .0) in
+    let h = call-own _ _ _ _ _ (s .pre .1 .0) (s .pre .1 .1) (i .if1 .taken)
+    (w .walk .ensures) (w .walk .kept .1 .1 .1 .1 .0) (o .own-reference .ensures) (s .pre .0) in
     call-note _ _ _ _ _ (h .1 .1)
 
 -- where the arms on the parent's name meet
@@ -102,7 +89,8 @@ visit-join : (t : ℕ) (c : visit-lts.At-match-came (visit-claims t) (visit-at t
     (c .match .marks) (c .match .places) (c .match .buffer) (c .match .g)
 visit-join t c =
     ⊎-elim
-    (λ w. step-follow (w .13) (w .14) (w .15) (w .16) (w .1 .given .1) (w .6 .ensures) (w .6 .kept .1 .1 .1 .0) (w .6 .kept .1 .1 .1 .1 .0) (w .6 .kept .1 .1 .1 .1 .1 .0))
+    (λ w. step-follow (w .13) (w .14) (w .15) (w .16) (w .1 .given .1)
+    (w .6 .ensures) (w .6 .kept .1 .1 .1 .0) (w .6 .kept .1 .1 .1 .1 .0) (w .6 .kept .1 .1 .1 .1 .1 .0))
     (⊎-elim (λ w. step-wrong (w .7) (w .8) (w .9) (w .10) (w .1 .given .1) (w .4 .ensures) (w .4 .kept .1 .0)) (λ w. step-nowhere (w .2) (w .3) (w .4) (w .5) (w .1 .given .1)))
     (c .match .came)
 
@@ -113,12 +101,8 @@ visit-list-requires t c κs =
     let i = w .before .before .before .before in
     let s = i .before .before .before .before .before .before .before in
     let j = visit-join t (c .before .before) in
-    call-list _ _ _ _ _ (s .pre .1 .0) (s .pre .1 .1) (i .if1 .taken) (w .walk .ensures) (w .walk .kept .1 .1 .1 .1 .0) (o .own-reference .ensures) (j .made) (j .places-long)
-
-visit-note-requires-2 : (t : ℕ) → visit-lts.Need-note-requires-2 (visit-claims t) (visit-at t) visit.Post
-visit-note-requires-2 t c κs =
-    let s = c .before .before .before .before .before .before .before .before .before in
-    call-note _ _ _ _ _ (s .pre .1 .1)
+    call-list _ _ _ _ _ (s .pre .1 .0) (s .pre .1 .1) (i .if1 .taken)
+    (w .walk .ensures) (w .walk .kept .1 .1 .1 .1 .0) (o .own-reference .ensures) (j .made) (j .places-long)
 
 visit-same-length : (t : ℕ) → visit-lts.Need-same-length (visit-claims t) (visit-at t) visit.Post
 visit-same-length t c =
@@ -126,20 +110,7 @@ visit-same-length t c =
     let x = l .before .before .before in
     let w = x .before .before .before .before .before .before .before .before in
     let s = w .before .before .before .before .before .before .before .before .before .before .before in
-    l .list .kept .1 .0 ∙ visit-join t (x) .marks-long ∙ w .walk .kept .1 .1 .1 .0 ∙ length-set (s .args .marks .now) (s .args .d) 1
-
-visit-same-length-2 : (t : ℕ) → visit-lts.Need-same-length-2 (visit-claims t) (visit-at t) visit.Post
-visit-same-length-2 t c =
-    let l = c .before .before .before .before in
-    let x = l .before .before .before in
-    let w = x .before .before .before .before .before .before .before .before in
-    l .list .kept .1 .1 .0 ∙ visit-join t (x) .places-long ∙ w .walk .kept .1 .1 .1 .1 .0
-
-visit-same-length-3 : (t : ℕ) → visit-lts.Need-same-length-3 (visit-claims t) (visit-at t) visit.Post
-visit-same-length-3 t c =
-    let x = c .before .before .before .before .before .before .before in
-    let w = x .before .before .before .before .before .before .before .before in
-    visit-join t (x) .buffer-long ∙ w .walk .kept .1 .1 .1 .1 .1 .0
+    l .list .kept .1 .0 ∙ visit-join t x .marks-long ∙ w .walk .kept .1 .1 .1 .0 ∙ length-set (s .args .marks .now) (s .args .d) 1
 
 visit-returns : (t : ℕ) → visit-lts.Need-returns (visit-claims t) (visit-at t) visit.Post
 visit-returns t c =
@@ -149,22 +120,15 @@ visit-returns t c =
     let w = o .before .before .before .before .before .before .before in
     let i = w .before .before .before .before in
     let s = i .before .before .before .before .before .before .before in
-    let j = visit-join t (x) in
-    ret-new _ _ _ _ _ (s .pre .1 .0) (s .pre .1 .1) (i .if1 .taken) (w .walk .ensures) (w .walk .kept .1 .1 .1 .1 .0) (o .own-reference .ensures) (j .made) (j .places-long) (l .list .ensures)
+    let j = visit-join t x in
+    ret-new _ _ _ _ _ (s .pre .1 .0) (s .pre .1 .1) (i .if1 .taken)
+    (w .walk .ensures) (w .walk .kept .1 .1 .1 .1 .0) (o .own-reference .ensures) (j .made) (j .places-long) (l .list .ensures)
 
 visit-returns-2 : (t : ℕ) → visit-lts.Need-returns-2 (visit-claims t) (visit-at t) visit.Post
 visit-returns-2 t c =
     let j = c .before .before .before .before in
     let s = j .before .before .before .before .before .before .before .before in
     ret-open _ _ _ _ _ (s .pre .1 .0) (s .pre .1 .1) (j .if2 .taken) (c .before .before .note2 .ensures)
-
-visit-returns-3 : (t : ℕ) → visit-lts.Need-returns-3 (visit-claims t) (visit-at t) visit.Post
-visit-returns-3 t c =
-    let s = c .before .before .before .before .before .before .before .before in
-    ret-listed _ _ _ _ _ (s .pre .1 .0) (s .pre .1 .1) (c .before .if1 .left) (c .if2 .left)
-
-walk-next-reference-requires : (t : ℕ) → walk-lts.Need-next-reference-requires (walk-claims t) (walk-at t) walk.Post
-walk-next-reference-requires t c κs = c .before .before .before .before .before .pre .1 .0 .few
 
 walk-visit-requires : (t : ℕ) → walk-lts.Need-visit-requires (walk-claims t) (walk-at t) walk.Post
 walk-visit-requires t c κs =
@@ -174,7 +138,8 @@ walk-visit-requires t c κs =
     let m = i .before in
     let n = m .before in
     let s = n .before .before .before .before .before .before in
-    let h = call-field _ _ _ _ _ (n .next-reference .ensures) (sym (m .member-at .ensures) ∙ i .if1 .taken) (s .pre .1 .0) (f .field-reference .ensures) (s .pre .0) in
+    let h = call-field _ _ _ _ _ (n .next-reference .ensures) (sym (m .member-at .ensures) ∙ i .if1 .taken)
+    (s .pre .1 .0) (f .field-reference .ensures) (s .pre .0) in
     (h .0, (follow-in (decode (s .args .t .now)) (e .r .given .1) (h .1 .0), h .1 .1, s .pre .1 .1))
 
 walk-note-requires : (t : ℕ) → walk-lts.Need-note-requires (walk-claims t) (walk-at t) walk.Post
@@ -184,7 +149,8 @@ walk-note-requires t c κs =
     let m = i .before in
     let n = m .before in
     let s = n .before .before .before .before .before .before in
-    let h = call-field _ _ _ _ _ (n .next-reference .ensures) (sym (m .member-at .ensures) ∙ i .if1 .taken) (s .pre .1 .0) (f .field-reference .ensures) (s .pre .0) in
+    let h = call-field _ _ _ _ _ (n .next-reference .ensures) (sym (m .member-at .ensures) ∙ i .if1 .taken)
+    (s .pre .1 .0) (f .field-reference .ensures) (s .pre .0) in
     call-note _ _ _ _ _ (h .1 .1)
 
 -- where the arms on the field meet
@@ -194,7 +160,8 @@ walk-join : (t : ℕ) (c : walk-lts.At-match-came (walk-claims t) (walk-at t) wa
     (c .match .marks) (c .match .places) (c .match .buffer) (c .match .b)
 walk-join t c =
     ⊎-elim
-    (λ w. step-follow (w .13) (w .14) (w .15) (w .16) (w .1 .given .1) (w .6 .ensures) (w .6 .kept .1 .1 .1 .0) (w .6 .kept .1 .1 .1 .1 .0) (w .6 .kept .1 .1 .1 .1 .1 .0))
+    (λ w. step-follow (w .13) (w .14) (w .15) (w .16) (w .1 .given .1)
+    (w .6 .ensures) (w .6 .kept .1 .1 .1 .0) (w .6 .kept .1 .1 .1 .1 .0) (w .6 .kept .1 .1 .1 .1 .1 .0))
     (⊎-elim (λ w. step-wrong (w .7) (w .8) (w .9) (w .10) (w .1 .given .1) (w .4 .ensures) (w .4 .kept .1 .0)) (λ w. step-nowhere (w .2) (w .3) (w .4) (w .5) (w .1 .given .1)))
     (c .match .came)
 
@@ -214,27 +181,10 @@ walk-walk-requires t c κs =
     let m = i .before in
     let n = m .before in
     let s = n .before .before .before .before .before .before in
-    let j = walk-join t (x) in
-    let h = call-rest _ _ _ _ _ (n .next-reference .ensures) (sym (m .member-at .ensures) ∙ i .if1 .taken) (s .pre .1 .0) (f .field-reference .ensures) (j .made) (j .places-long) (s .pre .0) in
+    let j = walk-join t x in
+    let h = call-rest _ _ _ _ _ (n .next-reference .ensures) (sym (m .member-at .ensures) ∙ i .if1 .taken)
+    (s .pre .1 .0) (f .field-reference .ensures) (j .made) (j .places-long) (s .pre .0) in
     (h .0, (h .1, s .pre .1 .1))
-
-walk-same-length : (t : ℕ) → walk-lts.Need-same-length (walk-claims t) (walk-at t) walk.Post
-walk-same-length t c =
-    let w = c .before .before .before .before .before .before in
-    let x = w .before .before .before .before in
-    w .walk .kept .1 .1 .1 .0 ∙ walk-join t (x) .marks-long
-
-walk-same-length-2 : (t : ℕ) → walk-lts.Need-same-length-2 (walk-claims t) (walk-at t) walk.Post
-walk-same-length-2 t c =
-    let w = c .before .before .before .before .before .before in
-    let x = w .before .before .before .before in
-    w .walk .kept .1 .1 .1 .1 .0 ∙ walk-join t (x) .places-long
-
-walk-same-length-3 : (t : ℕ) → walk-lts.Need-same-length-3 (walk-claims t) (walk-at t) walk.Post
-walk-same-length-3 t c =
-    let w = c .before .before .before .before .before .before in
-    let x = w .before .before .before .before in
-    w .walk .kept .1 .1 .1 .1 .1 .0 ∙ walk-join t (x) .buffer-long
 
 walk-returns : (t : ℕ) → walk-lts.Need-returns (walk-claims t) (walk-at t) walk.Post
 walk-returns t c =
@@ -245,21 +195,37 @@ walk-returns t c =
     let m = i .before in
     let n = m .before in
     let s = n .before .before .before .before .before .before in
-    let j = walk-join t (x) in
-    ret-more _ _ _ _ _ (n .next-reference .ensures) (sym (m .member-at .ensures) ∙ i .if1 .taken) (s .pre .1 .0) (f .field-reference .ensures) (j .made) (j .places-long) (w .walk .ensures)
-
-walk-returns-2 : (t : ℕ) → walk-lts.Need-returns-2 (walk-claims t) (walk-at t) walk.Post
-walk-returns-2 t c = walked-end _ _ _ _ _ (c .before .before .next-reference .ensures) (sym (c .before .member-at .ensures) ∙ c .if1 .left)
+    let j = walk-join t x in
+    ret-more _ _ _ _ _ (n .next-reference .ensures) (sym (m .member-at .ensures) ∙ i .if1 .taken) (s .pre .1 .0)
+    (f .field-reference .ensures) (j .made) (j .places-long) (w .walk .ensures)
 
 pub +visit+walk-spec : {M : Type 1} → statement M
 +visit+walk-spec =
     close μ-visit μ-walk
-    (λ t. visit-lts.spec (visit-claims t) (visit-at t) visit.Post (visit-slice-read-m t) (visit-slice-write-marks t)
-    (visit-add-walk t) (visit-walk-requires t) (λ c κs. search needs) (λ c. search needs) (visit-visit-requires t) (λ c. search needs)
-    (visit-note-requires t) (λ c. search needs) (visit-list-requires t) (visit-note-requires-2 t) (visit-same-length t)
-    (visit-same-length-2 t) (visit-same-length-3 t) (visit-returns t) (λ c. search needs) (visit-returns-2 t)
-    (visit-returns-3 t))
-    (λ t. walk-lts.spec (walk-claims t) (walk-at t) walk.Post (walk-next-reference-requires t) (λ c κs. search needs) (λ c κs. search needs) (λ c. search needs)
-    (walk-visit-requires t) (λ c. search needs) (walk-note-requires t) (λ c. search needs) (walk-add-walk t)
-    (walk-walk-requires t) (walk-same-length t) (walk-same-length-2 t) (walk-same-length-3 t) (walk-returns t)
-    (walk-returns-2 t))
+    (λ t. visit-lts.spec (visit-claims t) (visit-at t) visit.Post
+    (λ c. let s = c .before .before .before .before .before .before in mark-in _ _ _ _ _ (s .pre .1 .0) (s .pre .1 .1))
+    (λ c. let s = c .before .before .before .before .before .before .before in mark-in _ _ _ _ _ (s .pre .1 .0) (s .pre .1 .1))
+    (λ c. let s = c .before .before .before .before .before .before .before in record { fits = next-fits _ _ _ _ _ (s .pre .1 .0) (s .pre .1 .1) })
+    (visit-walk-requires t) (λ c κs. search needs) (λ c. search needs) (visit-visit-requires t) (λ c. search needs)
+    (visit-note-requires t) (λ c. search needs) (visit-list-requires t)
+    (λ c κs. call-note _ _ _ _ _ (c .before .before .before .before .before .before .before .before .before .pre .1 .1))
+    (visit-same-length t)
+    (λ c. let x = c .before .before .before .before .before .before .before in
+    c .before .before .before .before .list .kept .1 .1 .0 ∙ visit-join t x .places-long ∙ x .before .before .before .before .before .before .before .before .walk .kept .1 .1 .1 .1 .0)
+    (λ c. let x = c .before .before .before .before .before .before .before in
+    visit-join t x .buffer-long ∙ x .before .before .before .before .before .before .before .before .walk .kept .1 .1 .1 .1 .1 .0)
+    (visit-returns t) (λ c. search needs) (visit-returns-2 t)
+    (λ c. let s = c .before .before .before .before .before .before .before .before in
+    ret-listed _ _ _ _ _ (s .pre .1 .0) (s .pre .1 .1) (c .before .if1 .left) (c .if2 .left)))
+    (λ t. walk-lts.spec (walk-claims t) (walk-at t) walk.Post
+    (λ c κs. c .before .before .before .before .before .pre .1 .0 .few)
+    (λ c κs. search needs) (λ c κs. search needs) (λ c. search needs) (walk-visit-requires t) (λ c. search needs)
+    (walk-note-requires t) (λ c. search needs) (walk-add-walk t) (walk-walk-requires t)
+    (λ c. let w = c .before .before .before .before .before .before in
+    w .walk .kept .1 .1 .1 .0 ∙ walk-join t (w .before .before .before .before) .marks-long)
+    (λ c. let w = c .before .before .before .before .before .before in
+    w .walk .kept .1 .1 .1 .1 .0 ∙ walk-join t (w .before .before .before .before) .places-long)
+    (λ c. let w = c .before .before .before .before .before .before in
+    w .walk .kept .1 .1 .1 .1 .1 .0 ∙ walk-join t (w .before .before .before .before) .buffer-long)
+    (walk-returns t)
+    (λ c. walked-end _ _ _ _ _ (c .before .before .next-reference .ensures) (sym (c .before .member-at .ensures) ∙ c .if1 .left)))
