@@ -1,76 +1,31 @@
--- `groups::sizes::resolve` meets its contract: the group fields below p are resolved. Assumes nothing.
+-- `groups::sizes::resolve` meets its contract: with no starts, every search starts at place 0. Assumes nothing.
 use borrow.Author.Needs.{needs}
-use native.Mathlib.Omega.{arith}
-use mathlib.Core.Path.{_≡_, refl, sym, _∙_}
-use Prim.Native.Nat.{_-_, _≤_}
-use denote.Ref.{now}
-use lib.ListN.{length, length-set}
-use Rattle.rules.specs.Table.{decode, at}
-use Rattle.groups.specs.Sizes.{Resolved}
-use Rattle.groups.proofs.Steps.{named-in, resolve-start, resolve-other, resolve-next, resolve-never, resolve-end}
+use mathlib.Core.Path.{refl}
 use Rattle.groups.proofs.sizes.resolve.Statement.{statement}
 use Rattle.groups.proofs.sizes.resolve.Tie as tie
 
-abbrev Inv-loop : tie.InvT-loop
-Inv-loop t targets₀ end p₀ targets p = Resolved (decode t) targets p × (p ≤ end) × (end ≡ length (decode t)) × (length targets ≡ length targets₀)
+fill-requires : tie.Need-fill-requires
+fill-requires c κs = (c .before .before .before .before .before .before .before .pre .0 .0, refl)
 
-abbrev μ-loop : tie.MeasureT-loop
-μ-loop t targets₀ end p₀ targets p = end - p
+resolve-from-requires : tie.Need-resolve-from-requires
+resolve-from-requires c κs =
+    let f = c .before .before .before in
+    let a = f .before .before .before .before .before in
+    let s = a .before .before .before in
+    let r = a .first-group .ensures in
+    ((s .pre .0 .0, r .0, r .1 _ (s .pre .0 .1)), (s .pre .1, f .fill .ensures))
 
-loop-holds : tie.Need-loop-holds Inv-loop μ-loop
-loop-holds c = (resolve-start _ _ (c .before .before .before .pre .0 .1), search needs, c .count .ensures, refl)
-
-cast-targets : tie.Need-cast-targets Inv-loop μ-loop
-cast-targets c =
-    let g = c .before in
-    let n = g .before .before in
-    let s = n .before .before .before .before .before .before .before .before .before in
-    omega (arith, named-in _ _ (sym (n .decl-named .ensures) ∙ g .g .given .1), s .pre .0 .0)
-
-mul-targets : tie.Need-mul-targets Inv-loop μ-loop
-mul-targets c =
-    let l = c .before .before .before .before .before .before .before .before in
-    omega (arith, l .loop .inv, l .before .before .before .before .pre .0 .0, c .before .before .before .before .before .before .before .loop-test .taken)
-
-slice-write-targets : tie.Need-slice-write-targets Inv-loop μ-loop
-slice-write-targets c =
-    let l = c .before .before .before .before .before .before .before .before in
-    let v = l .loop .inv in
-    omega (arith, v .0 .long, v .2, c .before .before .before .before .before .before .before .loop-test .taken)
-
-loop-again : tie.Need-loop-again Inv-loop μ-loop
-loop-again c =
-    let g = c .before in
-    let n = g .before .before in
-    let x = n .before in
-    let t = x .before .before .before in
-    let v = t .before .loop .inv in
-    let h = t .loop-test .taken in
-    (resolve-next (v .0) (omega (arith, v .2, h)) (n .decl-named .ensures ∙ rw (x .second .ensures)) (g .g .given .1), omega arith, v .2, length-set (t .before .loop .targets) (t .before .loop .p) (g .g .given .0 .0) ∙ v .3)
-
-loop-again-2 : tie.Need-loop-again-2 Inv-loop μ-loop
-loop-again-2 c =
-    let n = c .before .before in
-    let x = n .before in
-    let i = x .before in
-    let t = i .before .before in
-    let s = t .before .before .before .before .before in
-    let v = t .before .loop .inv in
-    let h = t .loop-test .taken in
-    (resolve-never (v .0) (s .pre .1) (omega (arith, v .2, h)) (sym (i .before .kind .ensures) ∙ i .if1 .taken) (n .decl-named .ensures ∙ rw (x .second .ensures)) (c .enum-told .given .1), omega arith, v .2, v .3)
-
-loop-again-3 : tie.Need-loop-again-3 Inv-loop μ-loop
-loop-again-3 c =
-    let v = c .before .before .before .loop .inv in
-    (resolve-other (v .0) (λ e. c .if1 .left (c .before .kind .ensures ∙ e)), omega arith, v .2, v .3)
-
-returns : tie.Need-returns Inv-loop μ-loop
-returns c = let v = c .before .loop .inv in let h = c .loop-test .left in resolve-end (v .0) (omega arith)
+resolve-from-requires-2 : tie.Need-resolve-from-requires-2
+resolve-from-requires-2 c κs =
+    let a = c .before .before .before .before .before in
+    let s = a .before .before .before in
+    let r = a .first-group .ensures in
+    ((s .pre .0 .0, r .0, r .1 _ (s .pre .0 .1)), (s .pre .1, record { skips = λ x. refl }))
 
 pub resolve-spec : {M : Type 1} → statement M
 resolve-spec =
     tie.close
     (tie.spec
-    Inv-loop μ-loop (λ c κs. search needs) loop-holds (λ c. search needs) (λ c κs. search needs) (λ c κs. search needs)
-    (λ c κs. search needs) (λ c. search needs) cast-targets mul-targets slice-write-targets (λ c. search needs) loop-again
-    (λ c. search needs) (λ c. search needs) loop-again-2 (λ c. search needs) loop-again-3 (λ c. c .before .loop .inv .3) returns)
+    (λ c κs. search needs) (λ c κs. search needs) (λ c κs. search needs) (λ c. search needs) fill-requires (λ c. search needs)
+    resolve-from-requires (λ c. search needs) (λ c. search needs) (λ c. search needs) resolve-from-requires-2 (λ c. search needs)
+    (λ c. search needs))
