@@ -1,5 +1,5 @@
 -- Inlining over plain lists: what the recursion needs at each call, and shows at each turn. Assumes nothing.
-use Prim.Native.Nat.{ℕ, zero, suc, _+_, _-_, _<_, _≤_, min}
+use Prim.Native.Nat.{ℕ, zero, suc, _+_, _-_, _*_, _<_, _≤_, min}
 use mathlib.Core.Path.{_≡_, refl, sym, ap, _∙_}
 use mathlib.Core.List.{List, [], _∷_, _++_}
 use mathlib.Core.Bool.{Bool, true, false, _&&_, _||_}
@@ -262,8 +262,8 @@ module _ {rs : List Record} {targets sizes : List ℕ} {d : ℕ} {env₀ : List 
             counted = omega arith;
           }
 
-      size-left : s .count + sizeAt targets sizes rs p ≤ 1600
-      size-left = let q = w .counted in let z = size-next rs p l o targets sizes in let r = y .room in omega arith
+      size-left : s .count + sizeAt targets sizes rs p ≤ a .count + getD sizes d 0
+      size-left = let q = w .counted in let z = size-next rs p l o targets sizes in omega arith
 
       -- ---- a group field: its group stands at g
       module _ (k34 : at rs p .kind ≡ 34) where
@@ -328,8 +328,8 @@ module _ {rs : List Record} {targets sizes : List ℕ} {d : ℕ} {env₀ : List 
               decl = (named-in rs (at rs p .second) found, named-declares rs (at rs p .second) found);
               stack = (let h = own-fits in let q = pm .0 in omega arith);
               spare = λ x i h. (let j = here-past rs d (y .decl .1) x h before in let q = pm .0 in let r = own-fits in let v = w .past in omega arith);
-              room = (let h = size-left in let q = size-found in omega arith);
-              wide = (let h = w .out-long in let q = y .wide in omega arith);
+              room = (let h = size-left in let q = size-found in let r = y .room in omega arith);
+              wide = (let h = size-left in let q = size-found in let e = w .out-long in let v = y .wide in omega arith);
             },
           )
 
@@ -368,8 +368,8 @@ module _ {rs : List Record} {targets sizes : List ℕ} {d : ℕ} {env₀ : List 
           unfolding sizeAt
           size-one = let h : (isConstraintOrCondition (at rs p .kind) && afterGroup rs p) ≡ false = rw (w .flag) at g in rw (sizeAt, ne-eqb _ _ k34, h)
 
-          pub call-add : (s .count < 1600) × (64000 ≤ length out)
-          call-add = let q = size-one in let h = size-left in let e = w .out-long in let v = y .wide in (omega arith, omega arith)
+          pub call-add : 40 * (s .count + 1) ≤ length out
+          call-add = let q = size-one in let h = size-left in let e = w .out-long in let v = y .wide in omega arith
 
           -- what is written
           pub turn-one : {out₂ : List ℕ} {s₂ : Progress} → output s₂ out₂ ≡ added (output s out) (inlinedRecord rs (take n env) (at rs p)) → length out₂ ≡ length out

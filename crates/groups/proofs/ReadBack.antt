@@ -1,13 +1,13 @@
 -- What the analyzer needs of inlining: its bytes are read back as the inlined records, and its answer decides the reply.
 -- Assumes nothing.
 use Prim.Native.Nat.{ℕ, zero, suc, _+_, _-_, _*_, _^_, _<_, _≤_}
-use mathlib.Core.Path.{_≡_, refl, sym, ap, _∙_}
+use mathlib.Core.Path.{_≡_, refl}
 use mathlib.Core.List.{List, [], _∷_, _++_, map}
 use mathlib.Core.Bool.{Bool, true, false, _&&_}
 use native.Mathlib.Omega.{arith}
 use native.Mathlib.Decide.{decLt}
 use lib.Dec.{eqb, ltb}
-use borrow.Author.Tests.{ltb-false}
+use borrow.Author.Tests.{ltb-true, ltb-false, le-ltb}
 use lib.ListN.{length, getD, take, drop, List·getD-eq-default}
 use lib.Seq.{take-at}
 use Rattle.rules.specs.Choice.{if_then_else_}
@@ -158,69 +158,64 @@ module _ (rs : List Record) (ok : (p : ℕ) → Fits (at rs p)) where
   unfolding inlined
   inlined-fits = good-all (each-good (length rs))
 
--- ---- what each answer says of the reply
+-- ---- what each answer says of the reply, and of the number of records, which stand at the start of a buffer of m bytes
 
-unfoldable pub Replied : List Inlined → List ℕ → List ℕ → Inlining → Type 0
-Replied xs t f inlinings.Swollen = answered reply.Swollen t f ≡ bySize xs t f
-Replied xs t f (inlinings.Unfit k) = answered (reply.Unfit k) t f ≡ bySize xs t f
-Replied xs t f (inlinings.Inlined n) = flagged (map recordOf xs) t f ≡ bySize xs t f
+unfoldable pub Replied : ℕ → List Inlined → List ℕ → List ℕ → Inlining → Type 0
+Replied m xs t f inlinings.Swollen = answered reply.Swollen t f ≡ bySize xs t f
+Replied m xs t f inlinings.NoRoom = (length xs ≤ 1600) × (m < 40 * length xs)
+Replied m xs t f (inlinings.Unfit k) = answered (reply.Unfit k) t f ≡ bySize xs t f
+Replied m xs t f (inlinings.Inlined n) =
+    (n ≤ 1600) × (n ≡ length xs) × (40 * n ≤ m) × (flagged (map recordOf xs) t f ≡ bySize xs t f)
 
-module _ (xs : List Inlined) (t f : List ℕ) where
-  replied : Replied xs t f (inlining xs)
+module _ (m : ℕ) (xs : List Inlined) (t f : List ℕ) where
+  replied : Replied m xs t f (inlining m xs)
   unfolding Replied inlining bySize byUnfit replies.byUnfit
-  replied = go (ltb 1600 (length xs)) refl (firstUnfit xs) refl
+  replied = go (ltb 1600 (length xs)) refl (ltb m (40 * length xs)) refl (firstUnfit xs) refl
     where
-      go : (b : Bool) → ltb 1600 (length xs) ≡ b → (u : Found) → firstUnfit xs ≡ u → Replied xs t f (inlining xs)
-      go true i u j = let e : answered reply.Swollen t f ≡ bySize xs t f = rw (bySize, i) in rw (inlining, i) e
-      go false i (At p) j =
+      go : (b : Bool) → ltb 1600 (length xs) ≡ b → (c : Bool) → ltb m (40 * length xs) ≡ c → (u : Found) → firstUnfit xs ≡ u → Replied m xs t f (inlining m xs)
+      go true i c k u j = let e : answered reply.Swollen t f ≡ bySize xs t f = rw (bySize, i) in rw (inlining, i) e
+      go false i true k u j = rw (inlining, i, k) (ltb-false _ _ i, ltb-true _ _ k)
+      go false i false k (At p) j =
           let e : answered (reply.Unfit (fieldKey (getD xs p (kept blank) .made))) t f ≡ bySize xs t f = rw (bySize, i, j) in
-          rw (inlining, i, j) e
-      go false i Nothing j = let e : flagged (map recordOf xs) t f ≡ bySize xs t f = rw (bySize, i, j) in rw (inlining, i, j) e
+          rw (inlining, i, k, j) e
+      go false i false k Nothing j =
+          let e : flagged (map recordOf xs) t f ≡ bySize xs t f = rw (bySize, i, j) in
+          rw (inlining, i, k, j) (ltb-false _ _ i, refl, ltb-false _ _ k, e)
 
-  pub reply-swollen : inlining xs ≡ inlinings.Swollen → answered reply.Swollen t f ≡ bySize xs t f
+  pub reply-swollen : inlining m xs ≡ inlinings.Swollen → answered reply.Swollen t f ≡ bySize xs t f
   unfolding Replied
   reply-swollen e = rw e at replied
 
-  pub reply-unfit : (k : FieldKey) → inlining xs ≡ inlinings.Unfit k → answered (reply.Unfit k) t f ≡ bySize xs t f
+  pub reply-unfit : (k : FieldKey) → inlining m xs ≡ inlinings.Unfit k → answered (reply.Unfit k) t f ≡ bySize xs t f
   unfolding Replied
   reply-unfit k e = rw e at replied
 
-  pub reply-inlined : (n : ℕ) → inlining xs ≡ inlinings.Inlined n → flagged (map recordOf xs) t f ≡ bySize xs t f
+  pub reply-inlined : (n : ℕ) → inlining m xs ≡ inlinings.Inlined n → flagged (map recordOf xs) t f ≡ bySize xs t f
   unfolding Replied
-  reply-inlined n e = rw e at replied
+  reply-inlined n e = let r : Replied m xs t f (inlinings.Inlined n) = rw e at replied in r .3
+
+-- a buffer for 1,600 records is long enough
+pub enough-room : (m : ℕ) (xs : List Inlined) → 64000 ≤ m → ¬ (inlining m xs ≡ inlinings.NoRoom)
+unfolding Replied
+enough-room m xs h e = let r : Replied m xs [] [] inlinings.NoRoom = rw e at (replied m xs [] []) in omega (arith, r .0, r .1)
 
 -- ---- where the answer is a number of records, they stand at the start of the buffer
 
-by-unfit : (xs : List Inlined) (n : ℕ) (u : Found) → byUnfit xs u ≡ inlinings.Inlined n → n ≡ length xs
-unfolding byUnfit
-by-unfit xs n (At i) e = let z : _≡_ {A = ℕ} 0 1 = cc in absurd (omega arith)
-by-unfit xs n Nothing e = cc
+pub few-records : (m : ℕ) (xs : List Inlined) (n : ℕ) → inlining m xs ≡ inlinings.Inlined n → (n ≤ 1600) × (n ≡ length xs) × (40 * n ≤ m)
+unfolding Replied
+few-records m xs n e = let r : Replied m xs [] [] (inlinings.Inlined n) = rw e at (replied m xs [] []) in (r .0, r .1, r .2)
 
-module _ (xs : List Inlined) (n : ℕ) (e : inlining xs ≡ inlinings.Inlined n) where
-  few : ltb 1600 (length xs) ≡ false
-  unfolding inlining
-  few = go (ltb 1600 (length xs)) refl
-    where
-      go : (b : Bool) → ltb 1600 (length xs) ≡ b → b ≡ false
-      go true i = let y : inlinings.Swollen ≡ inlinings.Inlined n = rw (inlining, i) at e in let z : _≡_ {A = ℕ} 0 1 = cc in absurd (omega arith)
-      go false i = refl
+front : (b : List ℕ) (xs : List Inlined) (n : ℕ) → inlining (length b) xs ≡ inlinings.Inlined n → take (40 * n) (inliningBytes b xs) ≡ encode (map recordOf xs)
+unfolding inliningBytes
+front b xs n e =
+    let r = few-records (length b) xs n e in
+    let few : length xs ≤ 1600 = omega (arith, r .0, r .1) in
+    let fits : 40 * length xs ≤ length b = omega (arith, r .1, r .2) in
+    let l : length (encode (map recordOf xs)) ≡ 40 * n = omega (arith, r .1, length-encode (map recordOf xs), length-records xs) in
+    rw (inliningBytes, le-ltb _ _ few, le-ltb _ _ fits)
+    (take-at (encode (map recordOf xs)) (drop (0 + length (encode (map recordOf xs))) b) (40 * n) l)
 
-  pub few-records : (n ≤ 1600) × (n ≡ length xs)
-  unfolding inlining
-  few-records =
-      let h : n ≡ length xs = by-unfit xs n (firstUnfit xs) (rw (inlining, few) at e) in
-      let l : length xs ≤ 1600 = ltb-false _ _ few in
-      (omega arith, h)
-
-  front : (b : List ℕ) → take (40 * n) (inliningBytes b xs) ≡ encode (map recordOf xs)
-  unfolding inliningBytes
-  front b =
-      let l = length-encode (map recordOf xs) in
-      let k = length-records xs in
-      let h = few-records .1 in
-      rw (inliningBytes, few) (take-at (encode (map recordOf xs)) (drop (0 + length (encode (map recordOf xs))) b) (40 * n) (omega arith))
-
-pub read-records : (t : List ℕ) (small : (i : ℕ) → getD t i 0 < 256) (b : List ℕ) (n : ℕ) → inlining (inlined (decode t)) ≡ inlinings.Inlined n
+pub read-records : (t : List ℕ) (small : (i : ℕ) → getD t i 0 < 256) (b : List ℕ) (n : ℕ) → inlining (length b) (inlined (decode t)) ≡ inlinings.Inlined n
     → decode (take (40 * n) (inliningBytes b (inlined (decode t)))) ≡ map recordOf (inlined (decode t))
 read-records t small b n e =
-    rw (front (inlined (decode t)) n e b) (decode-encode (map recordOf (inlined (decode t))) (inlined-fits (decode t) (at-fits t small)))
+    rw (front b (inlined (decode t)) n e) (decode-encode (map recordOf (inlined (decode t))) (inlined-fits (decode t) (at-fits t small)))

@@ -21,7 +21,7 @@ use Rattle.groups.specs.declared.Progress.{Progress}
 use Rattle.groups.specs.declared.Fit.{Fit}
 use Rattle.groups.specs.declared.Fit.the-variants.{Fine, Unfit}
 use Rattle.groups.specs.declared.Inlining.{Inlining}
-use Rattle.groups.specs.declared.Inlining.the-variants.{Swollen}
+use Rattle.groups.specs.declared.Inlining.the-variants.{Swollen, NoRoom}
 use Rattle.groups.specs.Sizes.{Resolved, totalSize, Sized}
 use Rattle.groups.specs.Outputs.{Output, output, judged, added, addedAll, empty, byFit, Ready, Expanded, Room}
 use Rattle.groups.specs.Inlinings.{byUnfit, inlining, inliningBytes}
@@ -106,11 +106,11 @@ module _ {rs : List Record} {targets sizes env₀ out₀ : List ℕ} (y : Room r
         }
 
     module _ (i : isKept (at rs d .kind) ≡ true) where
-      left : s .count + (1 + getD sizes d 0) ≤ 1600
+      left : s .count + (1 + getD sizes d 0) ≤ totalSize sizes rs (length rs)
       left = let a = total-next sizes rs d i in let b = total-rises sizes rs (d + 1) (length rs) (omega arith) in let c = w .counted in omega arith
 
-      pub call-first : (s .count < 1600) × (64000 ≤ length out)
-      call-first = let a = left in let b = w .out-long in let c = y .wide in (omega arith, omega arith)
+      pub call-first : 40 * (s .count + 1) ≤ length out
+      call-first = let a = left in let b = w .out-long in let c = y .wide in omega arith
 
       module _ {out₁ : List ℕ} {s₁ : Progress} (p : output s₁ out₁ ≡ added (output s out) (kept (at rs d))) (o : length out₁ ≡ length out) where
         one-more : s₁ .count ≡ s .count + 1
@@ -128,7 +128,7 @@ module _ {rs : List Record} {targets sizes env₀ out₀ : List ℕ} (y : Room r
               stack = omega arith;
               spare = λ e h q. (let a = y .stack in let b = w .env-long in omega arith);
               room = (let a = left in let b = one-more in omega arith);
-              wide = (let a = w .out-long in let b = y .wide in omega arith);
+              wide = (let a = left in let b = one-more in let c = w .out-long in let e = y .wide in omega arith);
             }
 
         pub write-next : {env₂ out₂ : List ℕ} {s₂ : Progress} → Expanded rs sizes d env 0 out₁ s₁ env₂ out₂ s₂ → length env₂ ≡ length env → length out₂ ≡ length out₁
@@ -159,20 +159,35 @@ module _ {rs : List Record} {targets sizes : List ℕ} (t : GroupsFirst rs) (y :
     swollen : 1600 < length (inlined rs)
     swollen = let e = inlined-size rs targets sizes t y z in omega arith
 
-    pub ret-swollen : (Swollen ≡ inlining (inlined rs)) × (b ≡ inliningBytes b (inlined rs))
+    pub ret-swollen : (Swollen ≡ inlining (length b) (inlined rs)) × (b ≡ inliningBytes b (inlined rs))
     unfolding inlining inliningBytes
     ret-swollen = (rw (lt-ltb _ _ swollen), rw (lt-ltb _ _ swollen))
 
-  module _ (h : totalSize sizes rs (length rs) ≤ 1600) (out₀ : List ℕ) {out : List ℕ} {s : Progress} (l : 64000 ≤ length out₀) (p : output s out ≡ addedAll (output empty out₀) (inlined rs)) where
-    fits : length (inlined rs) ≤ 1600
-    fits = let e = inlined-size rs targets sizes t y z in omega arith
+  module _ (h : totalSize sizes rs (length rs) ≤ 1600) (out₀ : List ℕ) where
+    size : length (inlined rs) ≡ totalSize sizes rs (length rs)
+    size = let e = inlined-size rs targets sizes t y z in omega arith
 
-    whole : output s out ≡ output (record { count = length (inlined rs); fit = fitOf Fine (inlined rs) }) (written out₀ 0 (encode (map recordOf (inlined rs))))
-    whole = let f = fits in p ∙ added-bytes (inlined rs) 0 Fine out₀ (omega arith) ∙ rw (zero-add (length (inlined rs)))
+    few : length (inlined rs) ≤ 1600
+    few = let e = size in omega arith
 
-    pub ret-fits : {r : Inlining} → r ≡ byFit (s .count) (s .fit) → (r ≡ inlining (inlined rs)) × (out ≡ inliningBytes out₀ (inlined rs))
+    pub ret-no-room : length out₀ < 40 * totalSize sizes rs (length rs)
+        → (NoRoom ≡ inlining (length out₀) (inlined rs)) × (out₀ ≡ inliningBytes out₀ (inlined rs))
     unfolding inlining inliningBytes
-    ret-fits e = (
-      e ∙ ap (λ (u : Output). byFit (u .progress .count) (u .progress .fit)) whole ∙ first-unfit (inlined rs) ∙ rw (le-ltb _ _ fits),
-      ap (λ (u : Output). u .bytes) whole ∙ rw (le-ltb _ _ fits),
-    )
+    ret-no-room l =
+        let e = size in
+        let m : length out₀ < 40 * length (inlined rs) = omega arith in
+        (rw (le-ltb _ _ few, lt-ltb _ _ m), rw (le-ltb _ _ few, lt-ltb _ _ m))
+
+    module _ (l : 40 * totalSize sizes rs (length rs) ≤ length out₀) {out : List ℕ} {s : Progress} (p : output s out ≡ addedAll (output empty out₀) (inlined rs)) where
+      fits : 40 * length (inlined rs) ≤ length out₀
+      fits = let e = size in omega arith
+
+      whole : output s out ≡ output (record { count = length (inlined rs); fit = fitOf Fine (inlined rs) }) (written out₀ 0 (encode (map recordOf (inlined rs))))
+      whole = let f = fits in p ∙ added-bytes (inlined rs) 0 Fine out₀ (omega arith) ∙ rw (zero-add (length (inlined rs)))
+
+      pub ret-fits : {r : Inlining} → r ≡ byFit (s .count) (s .fit) → (r ≡ inlining (length out₀) (inlined rs)) × (out ≡ inliningBytes out₀ (inlined rs))
+      unfolding inlining inliningBytes
+      ret-fits e = (
+        e ∙ ap (λ (u : Output). byFit (u .progress .count) (u .progress .fit)) whole ∙ first-unfit (inlined rs) ∙ rw (le-ltb _ _ few, le-ltb _ _ fits),
+        ap (λ (u : Output). u .bytes) whole ∙ rw (le-ltb _ _ few, le-ltb _ _ fits),
+      )

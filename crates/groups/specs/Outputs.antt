@@ -20,7 +20,7 @@ use Rattle.groups.specs.declared.Fit.{Fit}
 use Rattle.groups.specs.declared.Fit.the-variants.{Fine, Unfit}
 use Rattle.groups.specs.declared.Inlining.{Inlining}
 use Rattle.groups.specs.declared.Inlining.the-variants as inlinings
-use Rattle.groups.specs.Sizes.{Resolved, Sized}
+use Rattle.groups.specs.Sizes.{Resolved, Sized, totalSize}
 
 -- the constraints from p on
 abbrev pub constraintsFrom : List Record → ℕ → List ℕ
@@ -65,7 +65,7 @@ pub record Room (rs : List Record) (targets sizes env out : List ℕ) : Type 0 w
   pub resolved : Resolved rs targets (length rs)
   pub sized : Sized rs targets sizes (length rs)
   pub stack : length rs ≤ length env
-  pub wide : 64000 ≤ length out
+  pub wide : 40 * totalSize sizes rs (length rs) ≤ length out
 
 -- what the declaration at d needs, with n constraints on the stack; the stack has place for those of the records before it, too
 pub record Ready (rs : List Record) (targets sizes : List ℕ) (d : ℕ) (env : List ℕ) (n : ℕ) (out : List ℕ) (a : Progress) : Type 0 where
@@ -77,7 +77,7 @@ pub record Ready (rs : List Record) (targets sizes : List ℕ) (d : ℕ) (env : 
   pub stack : n ≤ length env
   pub spare : (e : ℕ) → e ≤ length rs → nearest (holdsAt rs Decl) e ≡ At d → n + e ≤ length env
   pub room : a .count + getD sizes d 0 ≤ 1600
-  pub wide : 64000 ≤ length out
+  pub wide : 40 * (a .count + getD sizes d 0) ≤ length out
 
 -- and what it gives: the records behind it, inlined, are written; the stack below n is kept
 pub record Expanded (rs : List Record) (sizes : List ℕ) (d : ℕ) (env : List ℕ) (n : ℕ) (out : List ℕ) (a : Progress) (env′ out′ : List ℕ) (z : Progress) : Type 0 where

@@ -9,7 +9,7 @@ use rules::FieldKey;
 use rules::Inlined;
 use sizes::is_kept;
 ghost use mathlib.Core.Path.{_≡_};
-ghost use Prim.Native.Nat.{_<_, _≤_};
+ghost use Prim.Native.Nat.{_+_, _*_, _≤_};
 ghost use lib.ListN.{length};
 ghost use Rattle.rules.specs.Table.{decode};
 ghost use Rattle.rules.specs.InlineGroups.{inlined};
@@ -21,6 +21,8 @@ ghost use Rattle.groups.specs.Inlinings.{inlining, inliningNumbered, inl
 // The answer of inlining: a row of the table of replies, or how many records the inlined table has.
 pub enum Inlining {
     Swollen,
+    // the inlined table is longer than the buffer
+    NoRoom,
     Unfit(FieldKey),
     Inlined(usize),
 }
@@ -55,7 +57,7 @@ fn judge(f: Fit, x: Inlined) -> Fit
 
 // Writes one record more.
 fn add(out: &mut [u8], a: Progress, x: Inlined) -> Progress
-    requires { ⌜ (a .count < 1600) × (64000 ≤ length (now out)) ⌝ }
+    requires { ⌜ 40 * (a .count + 1) ≤ length (now out) ⌝ }
     ensures { λ r. ⌜ output r (now (out .exit)) ≡ added (output a (now (out .entry))) x ⌝ }
 {
     let n = a.count;
@@ -153,25 +155,29 @@ fn inline_with(
     env: &mut [u16],
     out: &mut [u8],
 ) -> Inlining
-    requires { ⌜ (length (decode (now t)) ≤ 1600) × (length (decode (now t)) ≤ length (now targets)) × (length (decode (now t)) ≤ length (now sizes)) × (length (decode (now t)) ≤ length (now env)) × (64000 ≤ length (now out)) ⌝ }
+    requires { ⌜ (length (decode (now t)) ≤ 1600) × (length (decode (now t)) ≤ length (now targets)) × (length (decode (now t)) ≤ length (now sizes)) × (length (decode (now t)) ≤ length (now env)) ⌝ }
     requires { ⌜ GroupsFirst (decode (now t)) ⌝ }
-    ensures { λ r. ⌜ (r ≡ inlining (inlined (decode (now (t .entry))))) × (now (out .exit) ≡ inliningBytes (now (out .entry)) (inlined (decode (now (t .entry))))) ⌝ }
+    ensures { λ r. ⌜ (r ≡ inlining (length (now (out .entry))) (inlined (decode (now (t .entry))))) × (now (out .exit) ≡ inliningBytes (now (out .entry)) (inlined (decode (now (t .entry))))) ⌝ }
 {
     sizes::resolve(t, targets);
     sizes::measure(t, targets, sizes);
-    if 1600 < sizes::total(t, sizes) {
+    let n = sizes::total(t, sizes);
+    if 1600 < n {
         return Inlining::Swollen;
+    }
+    if out.len() < 40 * n {
+        return Inlining::NoRoom;
     }
     let a = write_all(t, targets, sizes, env, out);
     answer(a)
 }
 
-// Inlines the groups of a table in listed order into a buffer for 1,600 records.
+// Inlines the groups of a table in listed order into a buffer, if the inlined table fits it.
 pub fn inline_groups(t: &[u8], out: &mut [u8]) -> Inlining
-    requires { ⌜ (length (decode (now t)) ≤ 1600) × (64000 ≤ length (now out)) ⌝ }
+    requires { ⌜ length (decode (now t)) ≤ 1600 ⌝ }
     requires { ⌜ GroupsFirst (decode (now t)) ⌝ }
-    ensures { λ r. ⌜ (r ≡ inlining (inlined (decode (now (t .entry))))) × (now (out .exit) ≡ inliningBytes (now (out .entry)) (inlined (decode (now (t .entry))))) ⌝ }
-    ensures numbered { λ r. ⌜ inliningNumbered r ≡ inliningNumbered (inlining (inlined (decode (now (t .entry))))) ⌝ }
+    ensures { λ r. ⌜ (r ≡ inlining (length (now (out .entry))) (inlined (decode (now (t .entry))))) × (now (out .exit) ≡ inliningBytes (now (out .entry)) (inlined (decode (now (t .entry))))) ⌝ }
+    ensures numbered { λ r. ⌜ inliningNumbered r ≡ inliningNumbered (inlining (length (now (out .entry))) (inlined (decode (now (t .entry))))) ⌝ }
 {
     let mut targets = [0u16; 1600];
     let mut sizes = [0u16; 1600];
