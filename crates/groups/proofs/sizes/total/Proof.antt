@@ -6,6 +6,7 @@ use Prim.Native.Nat.{_-_, _*_, _≤_}
 use denote.Ref.{now}
 use lib.ListN.{length}
 use Rattle.rules.specs.Table.{decode}
+use Rattle.rules.specs.InlineGroups.{isKept}
 use Rattle.groups.specs.Sizes.{totalSize}
 use Rattle.groups.proofs.Measures.{total-next, total-other}
 use Rattle.groups.proofs.sizes.total.Statement.{statement}
@@ -41,7 +42,7 @@ loop-again c =
     let l = k .before .before in
     let s = l .before .before .before .before in
     let v = l .loop .inv in
-    let n = total-next (now (s .args .sizes)) (decode (now (s .args .t))) (l .loop .d) (rw (← k .kind .ensures) (sym (i .before .is-kept .ensures) ∙ i .if1 .taken)) in
+    let n = total-next (now (s .args .sizes)) (decode (now (s .args .t))) (l .loop .d) (ap isKept (sym (k .kind .ensures)) ∙ sym (i .before .is-kept .ensures) ∙ i .if1 .taken) in
     let b = c .shared-slice-known3 .given (l .loop .d) in
     (omega arith, omega arith, search needs, v .3)
 
@@ -49,7 +50,7 @@ loop-again-2 : tie.Need-loop-again-2 Inv-loop μ-loop
 loop-again-2 c =
     let k = c .before .before in
     let v = k .before .before .loop .inv in
-    (v .0 ∙ sym (total-other _ _ _ (rw (← k .kind .ensures) (sym (c .before .is-kept .ensures) ∙ c .if1 .left))), omega arith, search needs, v .3)
+    (v .0 ∙ sym (total-other _ _ _ (ap isKept (sym (k .kind .ensures)) ∙ sym (c .before .is-kept .ensures) ∙ c .if1 .left)), omega arith, search needs, v .3)
 
 returns : tie.Need-returns Inv-loop μ-loop
 returns c = let v = c .before .loop .inv in v .0 ∙ ap (totalSize _ _) (let h = c .loop-test .left in omega arith)
