@@ -6,12 +6,13 @@ use mathlib.Core.Logic.{_⊎_, inl, inr}
 use native.Mathlib.Omega.{arith}
 use Rattle.rules.specs.declared.Record.{Record}
 use Rattle.names.specs.Starts.{Starts}
+use Rattle.names.proofs.Laws.{starts-none}
 use Rattle.repeats.specs.Marks.{Marked}
 use Rattle.repeats.specs.declared.Key.the-variants.{FieldNames, Sizes, ElementSizes}
 use Rattle.repeats.proofs.Laws.{marked-ones}
-use Rattle.passes.specs.SizeStarts.{SizeStarts}
+use Rattle.size_fields.specs.SizeStarts.{SizeStarts}
 use Rattle.passes.specs.Parents.{Parents}
-use Rattle.passes.proofs.Starts.{starts-empty}
+use Rattle.size_fields.proofs.SizeStarts.{starts-empty}
 use Rattle.checks.specs.Known.{Known}
 
 pub declared-other : (k : ℕ) → (k ≡ 1) ⊎ (k ≡ 6) → k ≡ 4 → ⊥
@@ -23,10 +24,10 @@ module _ (rs : List Record) where
   pub known-none : (k : ℕ) → Known k rs [] [] []
   known-none k =
       record {
-        decls = λ e. record { skips = λ x. refl };
+        decls = λ e. starts-none rs;
         fields = λ e. marked-ones rs FieldNames 0;
         sizes = λ e. (marked-ones rs Sizes 0, marked-ones rs ElementSizes 0, starts-empty rs);
-        enums = λ e. record { skips = λ x. refl };
+        enums = λ e. starts-none rs;
         parents = λ e. record { none = λ d m c l. absurd (omega (arith, m)) };
       }
 

@@ -48,12 +48,8 @@ fn note_at(
     if pass != 5 {
         return faults::note_found(tally, buffer, finding(pass, t, marks, places, p));
     }
-    let once = faults::note_found(
-        tally,
-        buffer,
-        passes::size_fields::size_again(t, marks, more, p),
-    );
-    faults::note_found(once, buffer, passes::size_fields::size_target(t, places, p))
+    let once = faults::note_found(tally, buffer, size_fields::size_again(t, marks, more, p));
+    faults::note_found(once, buffer, size_fields::size_target(t, places, p))
 }
 
 // All faults of a pass other than 4, with what it asks for.
@@ -119,7 +115,7 @@ fn run_sizes(t: &[u8], buffer: &mut [u8]) -> Tally
     let mut places = [65535u16; 1600];
     repeats::mark(t, Key::Sizes, &mut sizes);
     repeats::mark(t, Key::ElementSizes, &mut elements);
-    passes::size_starts::fill(t, &mut places);
+    size_fields::starts::fill(t, &mut places);
     run_places(5, t, &sizes, &elements, &places, buffer)
 }
 

@@ -28,6 +28,10 @@ module _ (rs : List Record) where
   past : (x p : ℕ) → length rs ≤ p → firstFrom rs (DeclNamed x) p ≡ Nothing
   past x p h = sym (up-end (holdsAt rs (DeclNamed x)) p (length rs) p refl h)
 
+  -- no starts: every search starts at place 0
+  pub starts-none : Starts rs []
+  starts-none = record { skips = λ x. refl }
+
   -- every start is past the table
   pub starts-past : (starts : List ℕ) → length rs ≤ 1600 → starts ≡ replicate 4093 65535 → StartsFrom rs starts (length rs)
   starts-past starts l e =

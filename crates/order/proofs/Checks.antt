@@ -13,7 +13,6 @@ use Rattle.rules.specs.DeclIdentifiers.{visited, faultOf, pass2, order, ordered
 use Rattle.rules.specs.Ordering.{Accepts}
 use Rattle.rules.specs.declared.Fault.{Fault}
 use Rattle.rules.specs.declared.Record.{Record}
-use Rattle.names.specs.Starts.{Starts}
 use Rattle.faults.specs.Notes.{none}
 use Rattle.faults.proofs.Laws.{noted-logged, total-after}
 use Rattle.order.specs.declared.Progress.{Progress}
@@ -107,10 +106,6 @@ zeros (suc n) (suc m) h = ap (λ (l : List ℕ). 0 ∷ l) (zeros n m (omega arit
 -- the first r of m marks of places not visited
 pub part-zeros : (r n m : ℕ) → r ≡ n → n ≤ m → take (r - 0) (replicate {A = ℕ} m 0) ≡ replicate n 0
 part-zeros r n m e h = let z : r - 0 ≡ n = omega arith in rw z (zeros n m h)
-
--- with no starts every search starts at place 0
-pub starts-none : (rs : List Record) → Starts rs []
-starts-none rs = record { skips = λ x. refl }
 
 -- ---- what a caller reads from the total
 

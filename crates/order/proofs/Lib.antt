@@ -1,4 +1,3 @@
-pub mod Refers
 pub mod Bounds
 pub mod Skips
 pub mod Ready

@@ -1,7 +1,5 @@
 // Pass 2: declarations are visited depth first, what they refer to is checked, and each is listed after
 // all that it follows.
-pub mod references;
-
 use references::field_reference;
 use references::own_reference;
 use references::root_reference;

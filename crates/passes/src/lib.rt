@@ -1,4 +1,4 @@
-// What passes 1, 3 and 5 to 9 find at a place, a module a pass.
+// What passes 1, 3 and 6 to 9 find at a place, a module a pass.
 pub mod array_fields;
 pub mod field_identifiers;
 pub mod fixed_fields;
@@ -6,5 +6,3 @@ pub mod members;
 pub mod padding_fields;
 pub mod payload_fields;
 pub mod scope;
-pub mod size_fields;
-pub mod size_starts;

@@ -21,10 +21,10 @@ use Rattle.order.proofs.walk.Kinds as walk-kinds
 use Rattle.order.proofs.+visit+walk.Lts-walk as walk-lts
 use Rattle.order.proofs.next_reference.Reads as next-reference-reads
 use Rattle.order.proofs.member_at.Reads as member-at-reads
-use Rattle.order.proofs.references.field_reference.Reads as field-reference-reads
+use Rattle.references.proofs.field_reference.Reads as field-reference-reads
 use Rattle.order.proofs.list.Reads as list-reads
 use Rattle.order.proofs.note.Reads as note-reads
-use Rattle.order.proofs.references.own_reference.Reads as own-reference-reads
+use Rattle.references.proofs.own_reference.Reads as own-reference-reads
 use Rattle.order.proofs.+visit+walk.{statement}
 use Rattle.order.proofs.+visit+walk.Tie.{close}
 

@@ -1,7 +1,7 @@
 -- `order::check_decl_identifiers` meets its contract. Assumes nothing.
 use borrow.Author.Needs.{needs}
 use mathlib.Core.Path.{refl}
-use Rattle.order.proofs.Checks.{starts-none}
+use Rattle.names.proofs.Laws.{starts-none}
 use Rattle.order.proofs.check_decl_identifiers.Statement.{statement}
 use Rattle.order.proofs.check_decl_identifiers.Tie as tie
 
