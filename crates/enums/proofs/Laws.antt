@@ -17,7 +17,7 @@ use Rattle.rules.specs.Kinds.{isDecl}
 use Rattle.rules.specs.Widths.{scalarMax}
 use Rattle.rules.specs.Faults.{single, repeated}
 use Rattle.rules.specs.Sorts.{insert, inserted, sorted}
-use Rattle.rules.specs.EnumDeclarations.{outside, again, valueFaults, heldAt, held, rangeFaults, defaultFaults, innerFaults, tagFaults, tagsFaults, rangeAt, ranges, beforeAt, overlap, overlaps, enumFaults, pass4At, pass4}
+use Rattle.rules.specs.EnumDeclarations.{outside, again, valueFaults, heldAt, held, rangeFaults, defaultFaults, innerFaults, tagFaults, tagsFaults, rangeAt, ranges, beforeAt, overlap, overlaps, enumFaults, pass4At}
 use Rattle.rules.specs.declared.Record.{Record}
 use Rattle.rules.specs.declared.Fault.{Fault}
 use Rattle.rules.specs.declared.Found.{Found}

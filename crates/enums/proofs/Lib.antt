@@ -1,2 +1,5 @@
+pub mod Pairs
+pub mod Splits
 pub mod Sorts
+pub mod Stable
 pub mod Laws
