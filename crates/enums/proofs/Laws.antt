@@ -1,15 +1,13 @@
 -- Laws of pass 4: how many faults there can be, and what a turn of each loop adds. Assumes nothing.
-use Prim.Native.Nat.{ℕ, zero, suc, _+_, _-_, _*_, _<_, _≤_}
-use mathlib.Core.Path.{_≡_, refl, sym, ap, _∙_}
-use mathlib.Core.List.{List, [], _∷_, _++_, append-nil}
+use Prim.Native.Nat.{ℕ, _+_, _-_, _*_, _<_, _≤_}
+use mathlib.Core.Path.{_≡_, refl}
+use mathlib.Core.List.{List, [], _++_}
 use mathlib.Core.Bool.{Bool, true, false, _||_}
 use native.Mathlib.Omega.{arith}
-use native.Mathlib.Numerals.{add-one}
-use native.Mathlib.Nat.{le-trans, add-zero}
+use native.Mathlib.Nat.{le-trans}
 use borrow.Author.Tests.{eq-eqb, ne-eqb}
 use lib.Dec.{eqb, ltb, leb}
-use lib.ListN.{length, getD, take, set, length-append, List·getD-append}
-use lib.Seq.{take-suc-set, getD-append-add}
+use lib.ListN.{length, getD, length-append}
 use Rattle.rules.specs.Choice.{if_then_else_, when}
 use Rattle.rules.specs.Table.{at}
 use Rattle.rules.specs.Places.{first, each, holdsAt, upTo, memberCount}
@@ -19,13 +17,11 @@ use Rattle.rules.specs.Faults.{single, repeated}
 use Rattle.rules.specs.Sorts.{insert, inserted, sorted}
 use Rattle.rules.specs.EnumDeclarations.{outside, again, valueFaults, heldAt, held, rangeFaults, defaultFaults, innerFaults, tagFaults, tagsFaults, rangeAt, ranges, beforeAt, overlap, overlaps, enumFaults, pass4At}
 use Rattle.rules.specs.declared.Record.{Record}
-use Rattle.rules.specs.declared.Fault.{Fault}
 use Rattle.rules.specs.declared.Found.{Found}
 use Rattle.rules.specs.declared.Found.the-variants.{At, Nothing}
 use Rattle.rules.specs.declared.Target.{Target}
 use Rattle.rules.specs.declared.Target.the-variants.{Decl, TagOrDecl, ValueOrDecl, DefaultOrDecl}
 use Rattle.table.proofs.Laws.{each-more, each-few, first-in}
-use Rattle.enums.specs.Held.{heldAmong}
 use Rattle.enums.proofs.Sorts.{sorted-more, length-sorted}
 
 if-few : {A : Type 0} (b : Bool) (xs ys : List A) (k : ℕ) → length xs ≤ k → length ys ≤ k → length (if b then xs else ys) ≤ k
@@ -71,7 +67,7 @@ default-few : (rs : List Record) (p : ℕ) → length (defaultFaults rs p) ≤ 2
 unfolding defaultFaults
 default-few rs p = simp length-append (omega (arith, again-few 12 rs (TagOrDecl (at rs p .name)) p, again-few 44 rs DefaultOrDecl p))
 
-pub held-few-at : (rs : List Record) (p q : ℕ) → length (heldAt rs p q) ≤ 1
+held-few-at : (rs : List Record) (p q : ℕ) → length (heldAt rs p q) ≤ 1
 unfolding heldAt
 held-few-at rs p q = when-few _ _
 
@@ -86,6 +82,11 @@ tag-few rs d n p h =
     (if-few (eqb (at rs p .kind) 41) _ _ 1603 (le-trans (range-few rs _ p) (omega arith))
     (if-few (eqb (at rs p .kind) 42) _ _ 1603 (le-trans (value-few rs _ _ p) (omega arith))
     (if-few (eqb (at rs p .kind) 43) _ _ 1603 (le-trans (default-few rs p) (omega arith)) (omega arith))))
+
+-- the faults of a value that is in no range
+pub tag-value : (rs : List Record) (d n p : ℕ) → at rs p .kind ≡ 40 → valueFaults rs 0 (scalarMax (at rs d .one)) p ++ held rs d n p ≡ tagFaults rs d n p
+unfolding tagFaults
+tag-value rs d n p e = rw e
 
 -- the tags of an enum
 module _ (rs : List Record) (d : ℕ) where
@@ -159,59 +160,3 @@ module _ (rs : List Record) (p : ℕ) (ys : List ℕ) where
 pub ranges-none : (rs : List Record) (d : ℕ) → [] ≡ sorted (beforeAt rs) (ranges rs d 0)
 unfolding ranges each sorted inserted
 ranges-none rs d = refl
-
--- a place that is kept, or is not that of a range
-module _ (rs : List Record) (p m : ℕ) (s : List ℕ) where
-  pub kept-one : m < length s → at rs p .kind ≡ 41 → take (m + 1) (set s m p) ≡ take m s ++ rangeAt rs p
-  unfolding when
-  kept-one h e = rw (eq-eqb _ _ e, add-one, take-suc-set s m p h)
-
-  pub kept-none : (at rs p .kind ≡ 41 → ⊥) → take m s ≡ take m s ++ rangeAt rs p
-  unfolding when
-  kept-none e = rw (ne-eqb _ _ e, append-nil)
-
-pub ranges-next : (rs : List Record) (d i : ℕ) → ranges rs d (i + 1) ≡ ranges rs d i ++ rangeAt rs (d + 1 + i)
-unfolding ranges
-ranges-next rs d i = each-more _ i
-
-pub ranges-first : (rs : List Record) (d : ℕ) → [] ≡ ranges rs d 0
-unfolding ranges each
-ranges-first rs d = refl
-
--- the same listed at each place
-each-same : (f g : ℕ → List Fault) (n : ℕ) → ((i : ℕ) → i < n → f i ≡ g i) → each f n ≡ each g n
-unfolding each
-each-same f g zero h = refl
-each-same f g (suc n) h = rw (h n (omega arith), each-same f g n (λ i k. h i (omega arith)))
-
--- one place more, or none
-among-more : (rs : List Record) (p : ℕ) (qs : List ℕ) (q : ℕ) → heldAmong rs p (qs ++ q ∷ []) ≡ heldAmong rs p qs ++ heldAt rs p q
-unfolding heldAmong
-among-more rs p qs q =
-    ap (each (λ j. heldAt rs p (getD (qs ++ q ∷ []) j 0))) (length-append qs (q ∷ []))
-    ∙ each-more _ (length qs)
-    ∙ rw (each-same (λ j. heldAt rs p (getD (qs ++ q ∷ []) j 0)) (λ j. heldAt rs p (getD qs j 0)) (length qs) (λ i h. rw (List·getD-append qs (q ∷ []) 0 i h)), last)
-  where
-    last : getD (qs ++ q ∷ []) (length qs) 0 ≡ q
-    last = ap (λ (n : ℕ). getD (qs ++ q ∷ []) n 0) (sym (add-zero (length qs))) ∙ getD-append-add qs (q ∷ []) 0 0
-
-not-held : (rs : List Record) (p q : ℕ) → eqb (at rs q .kind) 41 ≡ false → heldAt rs p q ≡ []
-unfolding heldAt when
-not-held rs p q e = rw e
-
-among-at : (rs : List Record) (p q : ℕ) (qs : List ℕ) (b : Bool) → eqb (at rs q .kind) 41 ≡ b → heldAmong rs p (qs ++ rangeAt rs q) ≡ heldAmong rs p qs ++ heldAt rs p q
-unfolding when
-among-at rs p q qs true e = rw e (among-more rs p qs q)
-among-at rs p q qs false e = rw (e, not-held rs p q e) (simp append-nil)
-
-among-none : (rs : List Record) (p : ℕ) → heldAmong rs p [] ≡ []
-unfolding heldAmong each
-among-none rs p = refl
-
--- places that are no range hold nothing
-pub held-among : (rs : List Record) (d n p : ℕ) → heldAmong rs p (ranges rs d n) ≡ held rs d n p
-unfolding held ranges each
-held-among rs d zero p = among-none rs p
-held-among rs d (suc n) p =
-    among-at rs p (d + 1 + n) (each (λ i. rangeAt rs (d + 1 + i)) n) (eqb (at rs (d + 1 + n) .kind) 41) refl
-    ∙ ap (λ (xs : List Fault). xs ++ heldAt rs p (d + 1 + n)) (held-among rs d n p)

@@ -3,3 +3,4 @@ pub mod Splits
 pub mod Sorts
 pub mod Stable
 pub mod Laws
+pub mod Held

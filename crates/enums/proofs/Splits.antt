@@ -1,15 +1,18 @@
 -- Laws of a search by halves: what each half leaves, and what the place that it finds says. Assumes nothing.
 use Prim.Native.Nat.{ℕ, zero, suc, _+_, _<_, _≤_}
-use mathlib.Core.Path.{_≡_, refl, ap}
+use mathlib.Core.Path.{_≡_, refl, sym, ap, _∙_}
 use mathlib.Core.List.{List, [], _∷_, _++_}
 use mathlib.Core.Bool.{Bool, true, false}
 use native.Mathlib.Omega.{arith}
 use native.Mathlib.Decide.{decLt}
-use native.Mathlib.Nat.{not-suc-le-zero, le-of-suc-le-suc, zero-lt-suc, le-antisymm}
+use native.Mathlib.Nat.{not-suc-le-zero, le-of-suc-le-suc, zero-lt-suc, zero-add, le-antisymm}
+use borrow.Author.Tests.{leb-true, le-leb}
+use lib.Dec.{leb}
 use lib.ListN.{length, getD, take, drop}
-use lib.Seq.{length-take-le, getD-take}
+use lib.Seq.{length-take-le, getD-take, take-take}
 use Rattle.rules.specs.Sorts.{insert}
 use Rattle.enums.specs.Order.{Ordered, Split}
+use Rattle.enums.specs.Bounds.{one, countOf, holders}
 
 pub false-of : (b : Bool) → (b ≡ true → ⊥) → b ≡ false
 false-of true h = absurd (h refl)
@@ -48,8 +51,14 @@ module _ (le : ℕ → ℕ → Bool) (trans : (x y z : ℕ) → le x y ≡ true 
 pub split-end : {f : ℕ → Bool} {l : List ℕ} {low high : ℕ} → Split f l low high → low ≤ high → high ≤ low → Split f l low low
 split-end {f} {l} {low} {high} p h g = rw (le-antisymm g h) at p
 
+pub leb-trans : (x y z : ℕ) → leb x y ≡ true → leb y z ≡ true → leb x z ≡ true
+leb-trans x y z h g = le-leb x z (omega (arith, leb-true x y h, leb-true y z g))
+
 split-tail : (f : ℕ → Bool) (x : ℕ) (l : List ℕ) (k : ℕ) → Split f (x ∷ l) (suc k) (suc k) → Split f l k k
 split-tail f x l k s = record { holds = λ i h. s .holds (suc i) (omega arith); fails = λ i h g. s .fails (suc i) (omega arith) (omega arith) }
+
+split-none : (f : ℕ → Bool) (x : ℕ) (l : List ℕ) → Split f (x ∷ l) 0 0 → Split f l 0 0
+split-none f x l s = record { holds = λ i h. absurd (not-suc-le-zero h); fails = λ i h g. s .fails (suc i) (omega arith) (omega arith) }
 
 -- x goes behind those that may stand before it
 pub insert-split : (le : ℕ → ℕ → Bool) (x : ℕ) (l : List ℕ) (k : ℕ) → k ≤ length l → Split (λ y. le y x) l k k
@@ -61,3 +70,24 @@ insert-split le x (y ∷ ys) zero h s = rw (insert, s .fails 0 (omega arith) (ze
 insert-split le x (y ∷ ys) (suc k) h s =
     rw (insert, s .holds 0 (zero-lt-suc k))
     (ap (λ (z : List ℕ). y ∷ z) (insert-split le x ys k (le-of-suc-le-suc h) (split-tail (λ y. le y x) y ys k s)))
+
+-- only ranges whose lesser bound is at most v hold it
+holders-split : (v k : ℕ) (lows highs : List ℕ) → k ≤ length lows → length lows ≡ length highs → Split (λ x. leb x v) lows k k
+    → countOf (λ x. leb v x) (take k highs) ≡ holders v lows highs
+unfolding countOf holders
+holders-split v zero [] highs h e s = refl
+holders-split v (suc k) [] highs h e s = absurd (not-suc-le-zero h)
+holders-split v k (a ∷ lows) [] h e s = absurd (let z : 1 ≤ 0 = omega arith in not-suc-le-zero z)
+holders-split v zero (a ∷ lows) (b ∷ highs) h e s =
+    rw (s .fails 0 (omega arith) (zero-lt-suc (length lows)))
+    (holders-split v zero lows highs (omega arith) (omega arith) (split-none (λ x. leb x v) a lows s) ∙ sym (zero-add _))
+holders-split v (suc k) (a ∷ lows) (b ∷ highs) h e s =
+    rw (s .holds 0 (zero-lt-suc k))
+    (ap (λ (n : ℕ). one (leb v b) + n) (holders-split v k lows highs (le-of-suc-le-suc h) (omega arith) (split-tail (λ x. leb x v) a lows k s)))
+
+pub holders-first : (v k m : ℕ) (lows highs : List ℕ) → m ≤ length lows → m ≤ length highs → k ≤ m → Split (λ x. leb x v) (take m lows) k k
+    → countOf (λ x. leb v x) (take k highs) ≡ holders v (take m lows) (take m highs)
+holders-first v k m lows highs h g j s =
+    let a : length (take m lows) ≡ m = length-take-le m lows h in
+    let b : length (take m highs) ≡ m = length-take-le m highs g in
+    rw (← take-take k m highs j) (holders-split v k (take m lows) (take m highs) (omega arith) (omega arith) s)

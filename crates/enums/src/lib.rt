@@ -1,4 +1,5 @@
 // Pass 4, `check_enum_declarations`: the tags of each enum.
+mod bounds;
 mod ranges;
 mod tags;
 
@@ -8,13 +9,14 @@ use rules::Tally;
 use rules::Target;
 ghost use mathlib.Core.Path.{_≡_};
 ghost use Prim.Native.Nat.{_+_, _^_, _<_, _≤_};
-ghost use lib.ListN.{length, take};
+ghost use lib.ListN.{length};
 ghost use Rattle.rules.specs.Table.{decode};
 ghost use Rattle.rules.specs.Places.{memberCount};
 ghost use Rattle.rules.specs.Faults.{log, logged};
-ghost use Rattle.rules.specs.EnumDeclarations.{tagsFaults, ranges, pass4At, pass4};
+ghost use Rattle.rules.specs.EnumDeclarations.{tagsFaults, enumFaults, pass4At, pass4};
 ghost use Rattle.faults.specs.Notes.{notedAll};
 ghost use Rattle.repeats.specs.Marks.{Marked};
+ghost use Rattle.enums.specs.Bounds.{Bounds};
 ghost use Rattle.repeats.specs.declared.Key.the-variants.{TagNames, TagValues};
 
 // How many tags the enum at d has: those up to the next declaration.
@@ -29,63 +31,103 @@ fn tag_count(t: &[u8], d: usize) -> usize
     }
 }
 
-// The tags of the enum at d, which has n of them. The first m places of s are those of its ranges.
+// The tags of the enum at d, which has n of them. The first m numbers are the bounds of its ranges.
 fn note_tags(
     t: &[u8],
     names: &[u8],
     values: &[u8],
-    s: &[u16],
+    lows: &[u64],
+    highs: &[u64],
     m: usize,
     d: usize,
     n: usize,
     tally: Tally,
     buffer: &mut [u8],
 ) -> Tally
-    requires { ⌜ (m ≤ n) × (n ≤ length (now s)) × (take m (now s) ≡ ranges (decode (now t)) d n) × (d + 1 + n ≤ 1600) × (tally .total + 3000000 < 2 ^ 64) × Marked (decode (now t)) TagNames (now names) × Marked (decode (now t)) TagValues (now values) ⌝ }
+    requires { ⌜ (d + 1 + n ≤ 1600) × (tally .total + 3000000 < 2 ^ 64) × Bounds (decode (now t)) d n m (now lows) (now highs) × Marked (decode (now t)) TagNames (now names) × Marked (decode (now t)) TagValues (now values) ⌝ }
     ensures { λ r. ⌜ log r (now (buffer .exit)) ≡ notedAll (log tally (now (buffer .entry))) (tagsFaults (decode (now (t .entry))) d n) ⌝ }
 {
     let mut kept = tally;
     let mut i = 0;
     while i < n {
-        kept = tags::note_tag(t, names, values, s, m, d, n, d + 1 + i, kept, buffer);
+        let p = d + 1 + i;
+        kept = tags::note_tag(t, names, values, lows, highs, m, d, n, p, kept, buffer);
         i += 1;
     }
     kept
 }
 
-// What stands at d, if it is an enum: its tags, and then its ranges. 1,600 tags have at most 1,600 × 1,603 faults, and 1,600 overlaps.
+// The enum at d, which has n tags: the tags, and then the ranges. 1,600 tags have at most 1,600 × 1,603 faults, and 1,600 overlaps.
 fn note_enum(
     t: &[u8],
     names: &[u8],
     values: &[u8],
     d: usize,
+    n: usize,
     s: &mut [u16],
+    lows: &mut [u64],
+    highs: &mut [u64],
     tally: Tally,
     buffer: &mut [u8],
 ) -> Tally
-    requires { ⌜ (d < length (decode (now t))) × (length (decode (now t)) ≤ 1600) × (1600 ≤ length (now s)) × (tally .total + 4000000 < 2 ^ 64) × Marked (decode (now t)) TagNames (now names) × Marked (decode (now t)) TagValues (now values) ⌝ }
+    requires { ⌜ (d + 1 + n ≤ 1600) × (1600 ≤ length (now s)) × (1600 ≤ length (now lows)) × (1600 ≤ length (now highs)) × (tally .total + 4000000 < 2 ^ 64) × Marked (decode (now t)) TagNames (now names) × Marked (decode (now t)) TagValues (now values) ⌝ }
+    ensures { λ r. ⌜ log r (now (buffer .exit)) ≡ notedAll (log tally (now (buffer .entry))) (enumFaults (decode (now (t .entry))) d n) ⌝ }
+{
+    let m = ranges::arrange(t, d, n, s, lows, highs);
+    let kept = note_tags(t, names, values, lows, highs, m, d, n, tally, buffer);
+    ranges::note_overlaps(t, s, m, kept, buffer)
+}
+
+// What stands at d, if it is an enum.
+fn note_place(
+    t: &[u8],
+    names: &[u8],
+    values: &[u8],
+    d: usize,
+    s: &mut [u16],
+    lows: &mut [u64],
+    highs: &mut [u64],
+    tally: Tally,
+    buffer: &mut [u8],
+) -> Tally
+    requires { ⌜ (d < length (decode (now t))) × (length (decode (now t)) ≤ 1600) × (1600 ≤ length (now s)) × (1600 ≤ length (now lows)) × (1600 ≤ length (now highs)) × (tally .total + 4000000 < 2 ^ 64) × Marked (decode (now t)) TagNames (now names) × Marked (decode (now t)) TagValues (now values) ⌝ }
     ensures { λ r. ⌜ log r (now (buffer .exit)) ≡ notedAll (log tally (now (buffer .entry))) (pass4At (decode (now (t .entry))) d) ⌝ }
 {
     if table::kind(t, d) != 3 {
         return tally;
     }
-    let n = tag_count(t, d);
-    let m = ranges::collect(t, d, n, s);
-    let kept = note_tags(t, names, values, s, m, d, n, tally, buffer);
-    let k = ranges::sort(t, d, n, s);
-    ranges::note_overlaps(t, s, k, kept, buffer)
+    note_enum(
+        t,
+        names,
+        values,
+        d,
+        tag_count(t, d),
+        s,
+        lows,
+        highs,
+        tally,
+        buffer,
+    )
 }
 
-// All enums. s is room for the places of an enum's ranges.
-fn note_enums(t: &[u8], names: &[u8], values: &[u8], s: &mut [u16], buffer: &mut [u8]) -> Tally
-    requires { ⌜ (length (decode (now t)) ≤ 1600) × (1600 ≤ length (now s)) × Marked (decode (now t)) TagNames (now names) × Marked (decode (now t)) TagValues (now values) ⌝ }
+// All enums. s is room for the places of an enum's ranges, lows and highs for their bounds.
+fn note_enums(
+    t: &[u8],
+    names: &[u8],
+    values: &[u8],
+    s: &mut [u16],
+    lows: &mut [u64],
+    highs: &mut [u64],
+    buffer: &mut [u8],
+) -> Tally
+    requires { ⌜ (length (decode (now t)) ≤ 1600) × (1600 ≤ length (now s)) × (1600 ≤ length (now lows)) × (1600 ≤ length (now highs)) × Marked (decode (now t)) TagNames (now names) × Marked (decode (now t)) TagValues (now values) ⌝ }
     ensures { λ r. ⌜ log r (now (buffer .exit)) ≡ logged (now (buffer .entry)) (pass4 (decode (now (t .entry)))) ⌝ }
 {
     let n = table::count(t);
     let mut tally = faults::no_faults();
     let mut d = 0;
     while d < n {
-        tally = note_enum(t, names, values, d, s, tally, buffer);
+        tally = note_place(t, names, values, d, s, lows, highs, tally, buffer);
         d += 1;
     }
     tally
@@ -99,7 +141,9 @@ pub fn check_enum_declarations(t: &[u8], buffer: &mut [u8]) -> Tally
     let mut names = [1u8; 1600];
     let mut values = [1u8; 1600];
     let mut s = [0u16; 1600];
+    let mut lows = [0u64; 1600];
+    let mut highs = [0u64; 1600];
     repeats::mark(t, Key::TagNames, &mut names);
     repeats::mark(t, Key::TagValues, &mut values);
-    note_enums(t, &names, &values, &mut s, buffer)
+    note_enums(t, &names, &values, &mut s, &mut lows, &mut highs, buffer)
 }

@@ -1,39 +1,28 @@
 // The faults of one tag of an enum.
+use crate::bounds::greater;
+use crate::bounds::holders;
+use crate::bounds::lesser;
 use faults::Finding;
 use repeats::Key;
 use repeats::again;
 use repeats::again_marked;
 use repeats::when;
+use rules::Fault;
 use rules::Found;
 use rules::Record;
 use rules::Tally;
 use rules::Target;
 ghost use mathlib.Core.Path.{_≡_};
-ghost use mathlib.Core.List.{_++_};
+ghost use mathlib.Core.List.{[], _∷_, _++_};
 ghost use Prim.Native.Nat.{_+_, _^_, _<_, _≤_};
-ghost use mathlib.Core.Bool.{_&&_};
-ghost use lib.ListN.{length, take};
-ghost use Rattle.rules.specs.Kinds.{is, tagRange};
-ghost use Rattle.rules.specs.Table.{decode, at};
+ghost use Rattle.rules.specs.Table.{decode};
+ghost use Rattle.rules.specs.Places.{each};
 ghost use Rattle.rules.specs.Faults.{log};
-ghost use Rattle.rules.specs.EnumDeclarations.{lesser, greater, holding, rangeFound, valueFaults, heldAt, rangeFaults, defaultFaults, innerFaults, tagFaults, ranges};
+ghost use Rattle.rules.specs.EnumDeclarations.{rangeFound, valueFaults, held, rangeFaults, defaultFaults, innerFaults, tagFaults};
 ghost use Rattle.faults.specs.Notes.{findings, notedAll};
 ghost use Rattle.repeats.specs.Marks.{Marked};
-ghost use Rattle.enums.specs.Held.{heldAmong};
 ghost use Rattle.repeats.specs.declared.Key.the-variants.{TagNames, TagValues};
-
-// The bounds of a range, put in order.
-pub(crate) fn lesser(r: Record) -> u64
-    ensures { λ n. ⌜ n ≡ lesser r ⌝ }
-{
-    if r.one <= r.two { r.one } else { r.two }
-}
-
-pub(crate) fn greater(r: Record) -> u64
-    ensures { λ n. ⌜ n ≡ greater r ⌝ }
-{
-    if r.one <= r.two { r.two } else { r.one }
-}
+ghost use Rattle.enums.specs.Bounds.{Bounds};
 
 // The range that a search found.
 fn range_found(t: &[u8], found: Found) -> Record
@@ -88,38 +77,38 @@ fn note_value(
     note_three(tally, buffer, x, y, z)
 }
 
-// Whether the tag at q is a range that holds v.
-fn is_held(t: &[u8], v: u64, q: usize) -> bool
-    ensures { λ r. ⌜ r ≡ (is tagRange (at (decode (now (t .entry))) q) && holding (at (decode (now (t .entry))) q) v) ⌝ }
+// The same fault several times.
+fn note_times(f: Fault, times: usize, tally: Tally, buffer: &mut [u8]) -> Tally
+    requires { ⌜ (times ≤ 1600) × (tally .total + 1601 < 2 ^ 64) ⌝ }
+    ensures { λ r. ⌜ log r (now (buffer .exit)) ≡ notedAll (log tally (now (buffer .entry))) (each (λ _. f ∷ []) times) ⌝ }
 {
-    let s = table::at(t, q);
-    (s.kind == 41) & ((lesser(s) <= v) & (v <= greater(s)))
-}
-
-// 43 at p, whose value is v, where the tag at q is a range that holds it.
-fn held_at(t: &[u8], v: u64, p: usize, q: usize) -> Finding
-    requires { ⌜ v ≡ at (decode (now t)) p .one ⌝ }
-    ensures { λ r. ⌜ findings r ≡ heldAt (decode (now (t .entry))) p q ⌝ }
-{
-    if is_held(t, v, q) {
-        return Finding::One(faults::single(43, table::at(t, p)));
-    }
-    Finding::Fine
-}
-
-// 43 for each of the first m places of s at which a range holds the value at p.
-fn note_held(t: &[u8], s: &[u16], m: usize, p: usize, tally: Tally, buffer: &mut [u8]) -> Tally
-    requires { ⌜ (m ≤ length (now s)) × (m ≤ 1600) × (tally .total + 1601 < 2 ^ 64) ⌝ }
-    ensures { λ r. ⌜ log r (now (buffer .exit)) ≡ notedAll (log tally (now (buffer .entry))) (heldAmong (decode (now (t .entry))) p (take m (now (s .entry)))) ⌝ }
-{
-    let v = table::at(t, p).one;
     let mut kept = tally;
     let mut j = 0;
-    while j < m {
-        kept = faults::note_found(kept, buffer, held_at(t, v, p, s[j] as usize));
+    while j < times {
+        kept = faults::note_found(kept, buffer, Finding::One(f));
         j += 1;
     }
     kept
+}
+
+// 43 for each range of the enum at d, which has n tags, that holds the value at p. The first m numbers are the ranges' bounds.
+fn note_held(
+    t: &[u8],
+    lows: &[u64],
+    highs: &[u64],
+    m: usize,
+    d: usize,
+    n: usize,
+    p: usize,
+    tally: Tally,
+    buffer: &mut [u8],
+) -> Tally
+    requires { ⌜ (n ≤ 1600) × (tally .total + 1601 < 2 ^ 64) × Bounds (decode (now t)) d n m (now lows) (now highs) ⌝ }
+    ensures { λ r. ⌜ log r (now (buffer .exit)) ≡ notedAll (log tally (now (buffer .entry))) (held (decode (now (t .entry))) d n p) ⌝ }
+{
+    let r = table::at(t, p);
+    let count = holders(lows, highs, m, r.one);
+    note_times(faults::single(43, r), count, tally, buffer)
 }
 
 // A range: 12, 40, 40.
@@ -163,12 +152,13 @@ fn note_inner(
     note_value(t, names, values, lesser(r), greater(r), p, tally, buffer)
 }
 
-// The tag at p of the enum at d, which has n tags. The first m places of s are those of its ranges.
+// The tag at p of the enum at d, which has n tags. The first m numbers are the bounds of its ranges.
 pub(crate) fn note_tag(
     t: &[u8],
     names: &[u8],
     values: &[u8],
-    s: &[u16],
+    lows: &[u64],
+    highs: &[u64],
     m: usize,
     d: usize,
     n: usize,
@@ -176,14 +166,14 @@ pub(crate) fn note_tag(
     tally: Tally,
     buffer: &mut [u8],
 ) -> Tally
-    requires { ⌜ (m ≤ n) × (n ≤ length (now s)) × (d + 1 + n ≤ 1600) × (tally .total + 1604 < 2 ^ 64) × (take m (now s) ≡ ranges (decode (now t)) d n) × Marked (decode (now t)) TagNames (now names) × Marked (decode (now t)) TagValues (now values) ⌝ }
+    requires { ⌜ (n ≤ 1600) × (tally .total + 1604 < 2 ^ 64) × Bounds (decode (now t)) d n m (now lows) (now highs) × Marked (decode (now t)) TagNames (now names) × Marked (decode (now t)) TagValues (now values) ⌝ }
     ensures { λ r. ⌜ log r (now (buffer .exit)) ≡ notedAll (log tally (now (buffer .entry))) (tagFaults (decode (now (t .entry))) d n p) ⌝ }
 {
     let most = widths::scalar_max(table::at(t, d).one);
     match table::kind(t, p) {
         40 => {
             let kept = note_value(t, names, values, 0, most, p, tally, buffer);
-            note_held(t, s, m, p, kept, buffer)
+            note_held(t, lows, highs, m, d, n, p, kept, buffer)
         }
         41 => note_range(t, names, most, p, tally, buffer),
         42 => note_inner(t, names, values, p, tally, buffer),

@@ -15,4 +15,4 @@ check-enum-declarations-spec =
     tie.close
     (tie.spec
     (λ c. search needs) mark-requires (λ c. search needs) mark-requires-2 (λ c. search needs) (λ c. search needs) (λ c. search needs)
-    (λ c κs. search needs) (λ c. search needs) (λ c. search needs))
+    (λ c. search needs) (λ c. search needs) (λ c κs. search needs) (λ c. search needs) (λ c. search needs))

@@ -16,26 +16,31 @@ use Rattle.enums.proofs.note_tags.Statement.{statement}
 use Rattle.enums.proofs.note_tags.Tie as tie
 
 abbrev Inv-loop : tie.InvT-loop
-Inv-loop t names values s m d n buffer₀ kept₀ i₀ buffer kept i =
+Inv-loop t names values lows highs m d n buffer₀ kept₀ i₀ buffer kept i =
     (log kept buffer ≡ notedAll (log kept₀ buffer₀) (each (λ j. tagFaults (decode t) d n (d + 1 + j)) i)) × (i ≤ n) × (length buffer ≡ length buffer₀)
 
 abbrev μ-loop : tie.MeasureT-loop
-μ-loop t names values s m d n buffer₀ kept₀ i₀ buffer kept i = n - i
+μ-loop t names values lows highs m d n buffer₀ kept₀ i₀ buffer kept i = n - i
 
 loop-holds : tie.Need-loop-holds Inv-loop μ-loop
-loop-holds c = (noted-start _ _, search needs, refl)
+loop-holds c =
+    (noted-start _ _, search needs, refl)
 
 note-tag-requires : tie.Need-note-tag-requires Inv-loop μ-loop
 note-tag-requires c κs =
     let l = c .before .before in
-    let s = l .before .before .before .before .before .before in
-    (search needs, search needs, search needs, omega (arith, each-total _ 1603 (l .loop .i) _ _ (λ i. tag-few (decode (now (s .args .t))) (s .args .d) (s .args .n) (s .args .d + 1 + i) (search needs)) (l .loop .inv .0)), search needs, search needs, search needs)
+    let s = l .before .before .before .before .before .before .before in
+    let few = tag-few (decode (now (s .args .t))) (s .args .d) (s .args .n) in
+    let total = each-total _ 1603 (l .loop .i) _ _ (λ i. few (s .args .d + 1 + i) (search needs)) (l .loop .inv .0) in
+    (search needs, omega arith, search needs, search needs, search needs)
 
 loop-again : tie.Need-loop-again Inv-loop μ-loop
 loop-again c =
     let n = c .before .before in
     let l = n .before .before .before in
-    (noted-place _ (l .loop .i) _ _ (l .loop .inv .0) refl (n .note-tag .ensures), search needs, search needs)
+    let s = l .before .before .before .before .before .before .before in
+    let noted = noted-place _ (l .loop .i) _ _ (l .loop .inv .0) refl (n .note-tag .ensures) in
+    (noted, search needs, search needs)
 
 returns : tie.Need-returns Inv-loop μ-loop
 unfolding tagsFaults
@@ -47,5 +52,5 @@ pub note-tags-spec : {M : Type 1} → statement M
 note-tags-spec =
     tie.close
     (tie.spec
-    Inv-loop μ-loop loop-holds (λ c. search needs) (λ c. search needs) note-tag-requires (λ c. search needs) (λ c. search needs)
-    loop-again (λ c. search needs) returns)
+    Inv-loop μ-loop loop-holds (λ c. search needs) (λ c. search needs) note-tag-requires
+    (λ c. search needs) (λ c. search needs) loop-again (λ c. search needs) returns)

@@ -1,5 +1,6 @@
 -- `enums::tags::note_range` meets its contract. Assumes nothing.
 use borrow.Author.Needs.{needs}
+use mathlib.Core.Path.{_∙_}
 use Rattle.rules.specs.EnumDeclarations.{rangeFaults}
 use Rattle.enums.proofs.tags.note_range.Statement.{statement}
 use Rattle.enums.proofs.tags.note_range.Tie as tie
@@ -13,7 +14,7 @@ returns c =
     let s = h .before in
     let a = s .before in
     let t = a .before in
-    rw (← a .again-marked .ensures, ← t .at .ensures, ← s .single .ensures, ← h .when .ensures, ← w .when2 .ensures) (n .note-three .ensures)
+    n .note-three .ensures ∙ rw (w .when2 .ensures, h .when .ensures, s .single .ensures, a .again-marked .ensures, t .at .ensures)
 
 pub note-range-spec : {M : Type 1} → statement M
 note-range-spec =

@@ -3,10 +3,11 @@ use borrow.Author.Needs.{needs}
 use native.Mathlib.Omega.{arith}
 use denote.Ref.{now}
 use borrow.Author.Tests.{ne-eqb}
+use mathlib.Core.Path.{sym, _∙_}
 use Rattle.rules.specs.Table.{decode}
 use Rattle.rules.specs.EnumDeclarations.{valueFaults, held, tagFaults}
 use Rattle.faults.proofs.Laws.{noted-none, noted-then, total-after}
-use Rattle.enums.proofs.Laws.{value-few, held-among}
+use Rattle.enums.proofs.Laws.{value-few, tag-value}
 use Rattle.enums.proofs.tags.note_tag.Statement.{statement}
 use Rattle.enums.proofs.tags.note_tag.Tie as tie
 
@@ -14,11 +15,12 @@ note-held-requires : tie.Need-note-held-requires
 note-held-requires c κs =
     let n = c .before .before .before in
     let s = n .before .before .before .before in
-    let t = s .before .before .before .before .before .before .before in
-    (search needs, search needs, omega (arith, total-after _ _ (valueFaults (decode (now (t .args .t))) 0 (s .scalar-max .result) (t .args .p)) (n .note-value .ensures), value-few (decode (now (t .args .t))) 0 (s .scalar-max .result) (t .args .p)))
+    let t = s .before .before .before .before .before .before .before .before in
+    let rs = decode (now (t .args .t)) in
+    let after = total-after _ _ (valueFaults rs 0 (s .scalar-max .result) (t .args .p)) (n .note-value .ensures) in
+    (search needs, omega (arith, value-few rs 0 (s .scalar-max .result) (t .args .p)), search needs)
 
 returns : tie.Need-returns
-unfolding tagFaults
 returns c =
     let n = c .before .before in
     let o = n .before .before .before .before in
@@ -26,8 +28,11 @@ returns c =
     let k = m .before in
     let s = k .before in
     let a = s .before in
-    let t = a .before .before .before .before .before .before in
-    rw (← k .kind .ensures, m .match .keys1, ← a .at .ensures, ← s .scalar-max .ensures) (noted-then _ (valueFaults (decode (now (t .args .t))) 0 (s .scalar-max .result) (t .args .p)) (held (decode (now (t .args .t))) (t .args .d) (t .args .n) (t .args .p)) (o .note-value .ensures) (rw (← held-among (decode (now (t .args .t))) (t .args .d) (t .args .n) (t .args .p), ← t .pre .4) (n .note-held .ensures)))
+    let t = a .before .before .before .before .before .before .before in
+    let rs = decode (now (t .args .t)) in
+    let both = noted-then _ (valueFaults rs 0 (s .scalar-max .result) (t .args .p)) (held rs (t .args .d) (t .args .n) (t .args .p)) in
+    let tag = tag-value rs (t .args .d) (t .args .n) (t .args .p) (sym (k .kind .ensures) ∙ m .match .keys1) in
+    rw (← tag, ← a .at .ensures, ← s .scalar-max .ensures) (both (o .note-value .ensures) (n .note-held .ensures))
 
 returns-2 : tie.Need-returns-2
 unfolding tagFaults
