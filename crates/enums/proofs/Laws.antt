@@ -4,13 +4,14 @@ use mathlib.Core.Path.{_≡_, refl}
 use mathlib.Core.List.{List, [], _++_}
 use mathlib.Core.Bool.{Bool, true, false, _||_}
 use native.Mathlib.Omega.{arith}
+use native.Mathlib.Numerals.{add-one}
 use native.Mathlib.Nat.{le-trans}
 use borrow.Author.Tests.{eq-eqb, ne-eqb}
 use lib.Dec.{eqb, ltb, leb}
 use lib.ListN.{length, getD, length-append}
 use Rattle.rules.specs.Choice.{if_then_else_, when}
 use Rattle.rules.specs.Table.{at}
-use Rattle.rules.specs.Places.{first, each, holdsAt, upTo, memberCount}
+use Rattle.rules.specs.Places.{nearest, first, each, holdsAt, upTo, memberCount}
 use Rattle.rules.specs.Kinds.{isDecl}
 use Rattle.rules.specs.Widths.{scalarMax}
 use Rattle.rules.specs.Faults.{single, repeated}
@@ -22,6 +23,7 @@ use Rattle.rules.specs.declared.Found.the-variants.{At, Nothing}
 use Rattle.rules.specs.declared.Target.{Target}
 use Rattle.rules.specs.declared.Target.the-variants.{Decl, TagOrDecl, ValueOrDecl, DefaultOrDecl}
 use Rattle.table.proofs.Laws.{each-more, each-few, first-in}
+use Rattle.enums.specs.Bounds.{rangeBefore}
 use Rattle.enums.proofs.Sorts.{sorted-more, length-sorted}
 
 if-few : {A : Type 0} (b : Bool) (xs ys : List A) (k : ℕ) → length xs ≤ k → length ys ≤ k → length (if b then xs else ys) ≤ k
@@ -160,3 +162,8 @@ module _ (rs : List Record) (p : ℕ) (ys : List ℕ) where
 pub ranges-none : (rs : List Record) (d : ℕ) → [] ≡ sorted (beforeAt rs) (ranges rs d 0)
 unfolding ranges each sorted inserted
 ranges-none rs d = refl
+
+-- the range that a value belongs to, one place further on
+pub before-range : (rs : List Record) (p : ℕ) → (at rs p .kind ≡ 41 → ⊥) → rangeBefore rs (p + 1) ≡ rangeBefore rs p
+unfolding nearest
+before-range rs p h = rw (add-one, nearest, ne-eqb _ _ h)

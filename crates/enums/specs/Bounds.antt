@@ -7,9 +7,12 @@ use lib.ListN.{length, take}
 use lib.Dec.{leb}
 use Rattle.rules.specs.Choice.{if_then_else_}
 use Rattle.rules.specs.Table.{at}
+use Rattle.rules.specs.Places.{nearest, holdsAt}
 use Rattle.rules.specs.Sorts.{sorted}
 use Rattle.rules.specs.EnumDeclarations.{lesser, greater, ranges, beforeAt}
 use Rattle.rules.specs.declared.Record.{Record}
+use Rattle.rules.specs.declared.Found.{Found}
+use Rattle.rules.specs.declared.Target.the-variants.{Range}
 
 -- 1 where a test holds
 abbrev pub one : Bool → ℕ
@@ -40,3 +43,7 @@ pub record Bounds (rs : List Record) (d n m : ℕ) (lows highs : List ℕ) : Typ
   pub roomHigh : m ≤ length highs
   pub low : take m lows ≡ lowsOf rs (sorted (beforeAt rs) (ranges rs d n))
   pub high : take m highs ≡ highsOf rs (sorted (beforeAt rs) (ranges rs d n))
+
+-- the range that an inner value at p belongs to
+abbrev pub rangeBefore : List Record → ℕ → Found
+rangeBefore rs p = nearest (holdsAt rs Range) p

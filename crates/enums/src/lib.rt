@@ -48,10 +48,25 @@ fn note_tags(
     ensures { λ r. ⌜ log r (now (buffer .exit)) ≡ notedAll (log tally (now (buffer .entry))) (tagsFaults (decode (now (t .entry))) d n) ⌝ }
 {
     let mut kept = tally;
+    let mut after = d + 1;
     let mut i = 0;
     while i < n {
         let p = d + 1 + i;
-        kept = tags::note_tag(t, names, values, lows, highs, m, d, n, p, kept, buffer);
+        kept = tags::note_tag(
+            t,
+            names,
+            values,
+            lows,
+            highs,
+            m,
+            d,
+            n,
+            after,
+            p,
+            kept,
+            buffer,
+        );
+        after = tags::after_range(t, after, p);
         i += 1;
     }
     kept

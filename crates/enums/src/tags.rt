@@ -22,7 +22,7 @@ ghost use Rattle.rules.specs.EnumDeclarations.{rangeFound, valueFaults, held, r
 ghost use Rattle.faults.specs.Notes.{findings, notedAll};
 ghost use Rattle.repeats.specs.Marks.{Marked};
 ghost use Rattle.repeats.specs.declared.Key.the-variants.{TagNames, TagValues};
-ghost use Rattle.enums.specs.Bounds.{Bounds};
+ghost use Rattle.enums.specs.Bounds.{Bounds, rangeBefore};
 
 // The range that a search found.
 fn range_found(t: &[u8], found: Found) -> Record
@@ -136,23 +136,35 @@ fn note_default(t: &[u8], names: &[u8], p: usize, tally: Tally, buffer: &mut [u8
     note_three(tally, buffer, x, y, Finding::Fine)
 }
 
-// A value in a range, against the range: no 43.
+// A value in a range, against the range: no 43. No range stands from `after` up to p.
 fn note_inner(
     t: &[u8],
     names: &[u8],
     values: &[u8],
+    after: usize,
     p: usize,
     tally: Tally,
     buffer: &mut [u8],
 ) -> Tally
-    requires { ⌜ (tally .total + 4 < 2 ^ 64) × Marked (decode (now t)) TagNames (now names) × Marked (decode (now t)) TagValues (now values) ⌝ }
+    requires { ⌜ (tally .total + 4 < 2 ^ 64) × Marked (decode (now t)) TagNames (now names) × Marked (decode (now t)) TagValues (now values) × (rangeBefore (decode (now t)) p ≡ rangeBefore (decode (now t)) after) ⌝ }
     ensures { λ r. ⌜ log r (now (buffer .exit)) ≡ notedAll (log tally (now (buffer .entry))) (innerFaults (decode (now (t .entry))) p) ⌝ }
 {
-    let r = range_found(t, table::search::nearest(t, Target::Range, p));
+    let r = range_found(t, table::search::nearest(t, Target::Range, after));
     note_value(t, names, values, lesser(r), greater(r), p, tally, buffer)
 }
 
-// The tag at p of the enum at d, which has n tags. The first m numbers are the bounds of its ranges.
+// Where no range stands from `after` up to p, the same for the next place.
+pub(crate) fn after_range(t: &[u8], after: usize, p: usize) -> usize
+    requires { ⌜ (p < 1600) × (rangeBefore (decode (now t)) p ≡ rangeBefore (decode (now t)) after) ⌝ }
+    ensures { λ r. ⌜ rangeBefore (decode (now (t .entry))) (p + 1) ≡ rangeBefore (decode (now (t .entry))) r ⌝ }
+{
+    if table::kind(t, p) == 41 {
+        return p + 1;
+    }
+    after
+}
+
+// The tag at p of the enum at d, which has n tags. The first m numbers are the bounds of its ranges; none stands from `after` up to p.
 pub(crate) fn note_tag(
     t: &[u8],
     names: &[u8],
@@ -162,11 +174,12 @@ pub(crate) fn note_tag(
     m: usize,
     d: usize,
     n: usize,
+    after: usize,
     p: usize,
     tally: Tally,
     buffer: &mut [u8],
 ) -> Tally
-    requires { ⌜ (n ≤ 1600) × (tally .total + 1604 < 2 ^ 64) × Bounds (decode (now t)) d n m (now lows) (now highs) × Marked (decode (now t)) TagNames (now names) × Marked (decode (now t)) TagValues (now values) ⌝ }
+    requires { ⌜ (n ≤ 1600) × (tally .total + 1604 < 2 ^ 64) × Bounds (decode (now t)) d n m (now lows) (now highs) × Marked (decode (now t)) TagNames (now names) × Marked (decode (now t)) TagValues (now values) × (rangeBefore (decode (now t)) p ≡ rangeBefore (decode (now t)) after) ⌝ }
     ensures { λ r. ⌜ log r (now (buffer .exit)) ≡ notedAll (log tally (now (buffer .entry))) (tagFaults (decode (now (t .entry))) d n p) ⌝ }
 {
     let most = widths::scalar_max(table::at(t, d).one);
@@ -176,7 +189,7 @@ pub(crate) fn note_tag(
             note_held(t, lows, highs, m, d, n, p, kept, buffer)
         }
         41 => note_range(t, names, most, p, tally, buffer),
-        42 => note_inner(t, names, values, p, tally, buffer),
+        42 => note_inner(t, names, values, after, p, tally, buffer),
         43 => note_default(t, names, p, tally, buffer),
         _ => tally,
     }

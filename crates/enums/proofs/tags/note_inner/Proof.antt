@@ -12,7 +12,8 @@ returns c =
     let l = g .before in
     let r = l .before in
     let e = r .before in
-    rw (← e .nearest .ensures, ← r .range-found .ensures, ← l .lesser .ensures, ← g .greater .ensures) (n .note-value .ensures)
+    let s = e .before .before .before .before .before in
+    rw (s .pre .3, ← e .nearest .ensures, ← r .range-found .ensures, ← l .lesser .ensures, ← g .greater .ensures) (n .note-value .ensures)
 
 pub note-inner-spec : {M : Type 1} → statement M
 note-inner-spec =
