@@ -1,6 +1,6 @@
 -- Laws of pass 4: how many faults there can be, and what a turn of each loop adds. Assumes nothing.
 use Prim.Native.Nat.{ℕ, _+_, _-_, _*_, _<_, _≤_}
-use mathlib.Core.Path.{_≡_, refl}
+use mathlib.Core.Path.{_≡_, refl, _∙_}
 use mathlib.Core.List.{List, [], _++_}
 use mathlib.Core.Bool.{Bool, true, false, _||_}
 use native.Mathlib.Omega.{arith}
@@ -167,3 +167,12 @@ ranges-none rs d = refl
 pub before-range : (rs : List Record) (p : ℕ) → (at rs p .kind ≡ 41 → ⊥) → rangeBefore rs (p + 1) ≡ rangeBefore rs p
 unfolding nearest
 before-range rs p h = rw (add-one, nearest, ne-eqb _ _ h)
+
+-- a table without an enum
+pub none-start : (rs : List Record) → each (pass4At rs) 0 ≡ []
+unfolding each
+none-start rs = refl
+
+pub none-more : (rs : List Record) (d : ℕ) → each (pass4At rs) d ≡ [] → (at rs d .kind ≡ 3 → ⊥) → each (pass4At rs) (d + 1) ≡ []
+unfolding pass4At
+none-more rs d e h = each-more _ d ∙ rw (e, ne-eqb _ _ h)

@@ -9,6 +9,8 @@ use rules::Tally;
 use rules::Target;
 ghost use mathlib.Core.Path.{_≡_};
 ghost use Prim.Native.Nat.{_+_, _^_, _<_, _≤_};
+ghost use mathlib.Core.List.{[]};
+ghost use mathlib.Core.Bool.{false};
 ghost use lib.ListN.{length};
 ghost use Rattle.rules.specs.Table.{decode};
 ghost use Rattle.rules.specs.Places.{memberCount};
@@ -148,8 +150,23 @@ fn note_enums(
     tally
 }
 
-// All faults of pass 4. Without a bound on the table their number, a cube, would not fit the total.
-pub fn check_enum_declarations(t: &[u8], buffer: &mut [u8]) -> Tally
+// Whether there is an enum at all.
+fn has_enum(t: &[u8]) -> bool
+    ensures { λ r. ⌜ (r ≡ false → pass4 (decode (now (t .entry))) ≡ []) ⌝ }
+{
+    let n = table::count(t);
+    let mut d = 0;
+    while d < n {
+        if table::kind(t, d) == 3 {
+            return true;
+        }
+        d += 1;
+    }
+    false
+}
+
+// All faults of pass 4, with arrays for a table of any length.
+fn check_all(t: &[u8], buffer: &mut [u8]) -> Tally
     requires { ⌜ length (decode (now t)) ≤ 1600 ⌝ }
     ensures { λ r. ⌜ log r (now (buffer .exit)) ≡ logged (now (buffer .entry)) (pass4 (decode (now (t .entry)))) ⌝ }
 {
@@ -161,4 +178,15 @@ pub fn check_enum_declarations(t: &[u8], buffer: &mut [u8]) -> Tally
     repeats::mark(t, Key::TagNames, &mut names);
     repeats::mark(t, Key::TagValues, &mut values);
     note_enums(t, &names, &values, &mut s, &mut lows, &mut highs, buffer)
+}
+
+// All faults of pass 4. Without a bound on the table their number, a cube, would not fit the total. Without an enum no array is cleared.
+pub fn check_enum_declarations(t: &[u8], buffer: &mut [u8]) -> Tally
+    requires { ⌜ length (decode (now t)) ≤ 1600 ⌝ }
+    ensures { λ r. ⌜ log r (now (buffer .exit)) ≡ logged (now (buffer .entry)) (pass4 (decode (now (t .entry)))) ⌝ }
+{
+    if !has_enum(t) {
+        return faults::no_faults();
+    }
+    check_all(t, buffer)
 }

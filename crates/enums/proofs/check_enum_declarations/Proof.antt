@@ -1,18 +1,18 @@
--- `enums::check_enum_declarations` meets its contract: marks that are all 1 say nothing yet. Assumes nothing.
+-- `enums::check_enum_declarations` meets its contract. Assumes nothing.
 use borrow.Author.Needs.{needs}
-use Rattle.repeats.proofs.Laws.{marked-ones}
+use borrow.Author.Tests.{not-true}
+use mathlib.Core.Path.{_∙_}
+use Rattle.faults.proofs.Laws.{noted-none, noted-logged}
 use Rattle.enums.proofs.check_enum_declarations.Statement.{statement}
 use Rattle.enums.proofs.check_enum_declarations.Tie as tie
 
-mark-requires : tie.Need-mark-requires
-mark-requires c κs = (search needs, marked-ones _ _ 1600)
-
-mark-requires-2 : tie.Need-mark-requires-2
-mark-requires-2 c κs = (search needs, marked-ones _ _ 1600)
+returns : tie.Need-returns
+returns c =
+    let i = c .before in
+    let h = i .before in
+    rw (h .has-enum .ensures (not-true _ (i .if1 .taken)), c .no-faults .ensures) (noted-none _ ∙ noted-logged _ _)
 
 pub check-enum-declarations-spec : {M : Type 1} → statement M
 check-enum-declarations-spec =
     tie.close
-    (tie.spec
-    (λ c. search needs) mark-requires (λ c. search needs) mark-requires-2 (λ c. search needs) (λ c. search needs) (λ c. search needs)
-    (λ c. search needs) (λ c. search needs) (λ c κs. search needs) (λ c. search needs) (λ c. search needs))
+    (tie.spec (λ c κs. search needs) (λ c κs. search needs) returns (λ c κs. search needs) (λ c. search needs) (λ c. search needs))
