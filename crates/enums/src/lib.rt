@@ -27,7 +27,7 @@ fn tag_count(t: &[u8], d: usize) -> usize
     ensures { λ r. ⌜ (r ≡ memberCount (decode (now (t .entry))) d) × (d + 1 + r ≤ length (decode (now (t .entry)))) ⌝ }
 {
     let a = d + 1;
-    match table::search::first(t, Target::Decl, a) {
+    match search::first(t, Target::Decl, a) {
         Found::At(e) => e - a,
         Found::Nothing => table::count(t) - a,
     }

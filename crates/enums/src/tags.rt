@@ -149,7 +149,7 @@ fn note_inner(
     requires { ⌜ (tally .total + 4 < 2 ^ 64) × Marked (decode (now t)) TagNames (now names) × Marked (decode (now t)) TagValues (now values) × (rangeBefore (decode (now t)) p ≡ rangeBefore (decode (now t)) after) ⌝ }
     ensures { λ r. ⌜ log r (now (buffer .exit)) ≡ notedAll (log tally (now (buffer .entry))) (innerFaults (decode (now (t .entry))) p) ⌝ }
 {
-    let r = range_found(t, table::search::nearest(t, Target::Range, after));
+    let r = range_found(t, search::nearest(t, Target::Range, after));
     note_value(t, names, values, lesser(r), greater(r), p, tally, buffer)
 }
 

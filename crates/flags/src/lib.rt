@@ -27,7 +27,7 @@ fn loose_at(t: &[u8], q: usize) -> bool
 {
     let condition = table::at(t, q);
     let field = table::kind(t, before(q));
-    let named = table::kinds::is_named_field(field);
+    let named = kinds::is_named_field(field);
     let valued = condition.marks % 2 == 1;
     (condition.kind == 11) & !(named & valued)
 }
@@ -123,7 +123,7 @@ fn count_entries(t: &[u8], x: u16, a: usize) -> usize
     while p < end {
         let q = p;
         p = q + 1;
-        if table::kinds::is_decl(table::kind(t, q)) {
+        if kinds::is_decl(table::kind(t, q)) {
             return n;
         }
         if is_condition_on(t, x, q) {
@@ -138,7 +138,7 @@ fn count_made(t: &[u8], marks: &[u8], r: Record, a: usize) -> usize
     requires { ⌜ Conditioned (decode (now t)) (now marks) (length (decode (now t))) ⌝ }
     ensures { λ n. ⌜ n ≡ length (entriesOf (decode (now (t .entry))) r a) ⌝ }
 {
-    if !table::kinds::is_named_field(r.kind) {
+    if !kinds::is_named_field(r.kind) {
         return 0;
     }
     // No condition of the table gives this name.
@@ -195,7 +195,7 @@ fn next_start(t: &[u8], p: usize, a: usize) -> usize
     requires { ⌜ (p < 1600) × (a ≡ membersStart (decode (now t)) p) ⌝ }
     ensures { λ r. ⌜ r ≡ membersStart (decode (now (t .entry))) (p + 1) ⌝ }
 {
-    if table::kinds::is_decl(table::kind(t, p)) {
+    if kinds::is_decl(table::kind(t, p)) {
         p + 1
     } else {
         a
@@ -239,7 +239,7 @@ fn write_entries(t: &[u8], x: u16, a: usize, out: &mut [u8], c: usize) -> usize
     while p < end {
         let q = p;
         p = q + 1;
-        if table::kinds::is_decl(table::kind(t, q)) {
+        if kinds::is_decl(table::kind(t, q)) {
             return n;
         }
         if is_condition_on(t, x, q) {

@@ -90,7 +90,7 @@ fn expand(
     while p < end {
         let q = p;
         let k = table::kind(t, q);
-        if table::kinds::is_decl(k) {
+        if kinds::is_decl(k) {
             return s;
         }
         let c = is_constraint_or_condition(k);

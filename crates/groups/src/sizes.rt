@@ -92,7 +92,7 @@ fn size_after(t: &[u8], targets: &[u16], sizes: &[u16], d: usize) -> usize
     while p < end {
         let q = p;
         let k = table::kind(t, q);
-        if table::kinds::is_decl(k) {
+        if kinds::is_decl(k) {
             return s;
         }
         let c = is_constraint_or_condition(k);
@@ -123,7 +123,7 @@ pub fn measure(t: &[u8], targets: &[u16], sizes: &mut [u16])
         let q = d;
         d = q + 1;
         let k = table::kind(t, q);
-        if table::kinds::is_decl(k) {
+        if kinds::is_decl(k) {
             let s = size_after(t, targets, sizes, q);
             sizes[q] = saturated(s);
         }

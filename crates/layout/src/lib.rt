@@ -1,14 +1,14 @@
 // The layout of a table: its length, the row of each record and the place where it stands.
 mod rows;
 
+use kinds::holds_fields;
+use kinds::is_decl;
+use kinds::is_field;
+use kinds::is_packet_or_struct;
 use rows::row_of;
 use rules::Layout;
 use rules::Record;
 use rules::Row;
-use table::kinds::holds_fields;
-use table::kinds::is_decl;
-use table::kinds::is_field;
-use table::kinds::is_packet_or_struct;
 ghost use mathlib.Core.Path.{_≡_};
 ghost use Prim.Native.Nat.{_+_, _<_, _≤_};
 ghost use lib.ListN.{length};

@@ -23,7 +23,7 @@ fn start_at(t: &[u8], p: usize, starts: &mut [u16])
     requires { ⌜ (p < length (decode (now t))) × (length (decode (now t)) ≤ 1600) × (length (now starts) ≡ 4093) × StartsFrom (decode (now t)) (now starts) (p + 1) ⌝ }
     ensures { λ _. ⌜ StartsFrom (decode (now (t .entry))) (now (starts .exit)) p ⌝ }
 {
-    if table::kinds::is_named_decl(table::kind(t, p)) {
+    if kinds::is_named_decl(table::kind(t, p)) {
         // The divisor is prime: names that are multiples of a power of two differ in their remainders.
         let h = (table::name(t, p) % 4093) as usize;
         starts[h] = p as u16;
@@ -58,7 +58,7 @@ pub fn decl_named(t: &[u8], starts: &[u16], name: u16) -> Found
     requires { ⌜ Starts (decode (now t)) (now starts) ⌝ }
     ensures { λ r. ⌜ r ≡ declNamed (decode (now (t .entry))) name ⌝ }
 {
-    table::search::first(t, Target::DeclNamed(name), start(starts, name))
+    search::first(t, Target::DeclNamed(name), start(starts, name))
 }
 
 // The nearest declaration before p that has the name of the record at p.
@@ -70,5 +70,5 @@ pub fn earlier(t: &[u8], starts: &[u16], p: usize) -> Found
     if (start(starts, name) == p) & (p < table::count(t)) {
         return Found::Nothing;
     }
-    table::search::nearest(t, Target::DeclNamed(name), p)
+    search::nearest(t, Target::DeclNamed(name), p)
 }

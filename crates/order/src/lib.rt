@@ -7,7 +7,7 @@ use rules::Found;
 use rules::Reference;
 use rules::Tally;
 use rules::Target;
-use table::search::first;
+use search::first;
 ghost use mathlib.Core.Path.{_≡_};
 ghost use Prim.Native.Nat.{ℕ, _+_, _*_, _-_, _^_, _≤_, _<_};
 ghost use lib.ListN.{length, take, set, replicate};

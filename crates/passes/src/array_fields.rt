@@ -13,7 +13,7 @@ ghost use Rattle.faults.specs.Notes.{findings};
 fn first_size(t: &[u8], name: u16, p: usize) -> Found
     ensures { λ r. ⌜ r ≡ firstWithin (decode (now (t .entry))) (SizeOrDecl name) p ⌝ }
 {
-    table::search::first_within(t, Target::SizeOrDecl(name), p)
+    search::first_within(t, Target::SizeOrDecl(name), p)
 }
 
 fn redundant_size(t: &[u8], p: usize, found: Found) -> Finding
@@ -22,7 +22,7 @@ fn redundant_size(t: &[u8], p: usize, found: Found) -> Finding
     match found {
         Found::At(q) => {
             let s = table::at(t, q);
-            if table::kinds::is_decl(s.kind) {
+            if kinds::is_decl(s.kind) {
                 return Finding::Fine;
             }
             Finding::One(faults::double(38, s, table::at(t, p)))

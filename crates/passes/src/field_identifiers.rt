@@ -12,7 +12,7 @@ pub fn at_place(t: &[u8], names: &[u8], p: usize) -> Finding
     requires { ⌜ Marked (decode (now t)) FieldNames (now names) ⌝ }
     ensures { λ r. ⌜ findings r ≡ pass3At (decode (now (t .entry))) p ⌝ }
 {
-    if !table::kinds::is_named_field(table::kind(t, p)) {
+    if !kinds::is_named_field(table::kind(t, p)) {
         return Finding::Fine;
     }
     repeats::again_marked(11, t, Key::FieldNames, p, names)

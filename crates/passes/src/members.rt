@@ -11,7 +11,7 @@ fn found_inside(t: &[u8], found: Found) -> bool
     ensures { λ r. ⌜ r ≡ foundInside (decode (now (t .entry))) found ⌝ }
 {
     match found {
-        Found::At(q) => !table::kinds::is_decl(table::kind(t, q)),
+        Found::At(q) => !kinds::is_decl(table::kind(t, q)),
         Found::Nothing => false,
     }
 }
@@ -21,7 +21,7 @@ pub(crate) fn has_member(t: &[u8], x: Target, d: usize) -> bool
     ensures { λ r. ⌜ r ≡ foundInside (decode (now (t .entry))) (firstFrom (decode (now (t .entry))) x (d + 1)) ⌝ }
 {
     if d < table::count(t) {
-        return found_inside(t, table::search::first(t, x, d + 1));
+        return found_inside(t, search::first(t, x, d + 1));
     }
     false
 }

@@ -28,5 +28,5 @@ pub fn at_place(t: &[u8], p: usize) -> Finding
     if table::kind(t, p) != 21 {
         return Finding::Fine;
     }
-    not_after_array(t, p, table::search::nearest(t, Target::FieldOrDecl, p))
+    not_after_array(t, p, search::nearest(t, Target::FieldOrDecl, p))
 }

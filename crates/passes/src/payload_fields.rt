@@ -18,7 +18,7 @@ ghost use Rattle.passes.specs.Parents.{Childless, Parents};
 fn first_payload(t: &[u8], p: usize) -> Found
     ensures { λ r. ⌜ r ≡ firstWithin (decode (now (t .entry))) PayloadOrDecl p ⌝ }
 {
-    table::search::first_within(t, Target::PayloadOrDecl, p)
+    search::first_within(t, Target::PayloadOrDecl, p)
 }
 
 // 36 with the first one as secondary.
@@ -47,9 +47,7 @@ fn has_payload(t: &[u8], d: usize) -> bool
 fn is_child_with_field(t: &[u8], d: usize, c: usize) -> bool
     ensures { λ r. ⌜ r ≡ childWithField (decode (now (t .entry))) d c ⌝ }
 {
-    if table::kinds::is_packet_or_struct(table::kind(t, c))
-        & (table::second(t, c) == table::name(t, d))
-    {
+    if kinds::is_packet_or_struct(table::kind(t, c)) & (table::second(t, c) == table::name(t, d)) {
         return has_field(t, c);
     }
     false
@@ -75,7 +73,7 @@ fn mark_parent(t: &[u8], c: usize, parents: &mut [u8])
     requires { ⌜ (length (now parents) ≡ 4093) × Childless (decode (now t)) (now parents) c ⌝ }
     ensures { λ _. ⌜ Childless (decode (now (t .entry))) (now (parents .exit)) (c + 1) ⌝ }
 {
-    if !table::kinds::is_packet_or_struct(table::kind(t, c)) {
+    if !kinds::is_packet_or_struct(table::kind(t, c)) {
         return;
     }
     if !has_field(t, c) {
@@ -121,10 +119,10 @@ pub fn at_place(t: &[u8], parents: &[u8], p: usize) -> Finding
     ensures { λ r. ⌜ findings r ≡ pass7At (decode (now (t .entry))) p ⌝ }
 {
     let k = table::kind(t, p);
-    if table::kinds::is_payload(k) {
+    if kinds::is_payload(k) {
         return second_payload(t, p, first_payload(t, p));
     }
-    if table::kinds::is_named_decl(k) {
+    if kinds::is_named_decl(k) {
         return missing_payload(t, parents, p);
     }
     Finding::Fine

@@ -11,7 +11,7 @@ pub fn at_place(t: &[u8], starts: &[u16], p: usize) -> Finding
     requires { ⌜ Starts (decode (now t)) (now starts) ⌝ }
     ensures { λ r. ⌜ findings r ≡ pass1At (decode (now (t .entry))) p ⌝ }
 {
-    if !table::kinds::is_named_decl(table::kind(t, p)) {
+    if !kinds::is_named_decl(table::kind(t, p)) {
         return Finding::Fine;
     }
     match names::earlier(t, starts, p) {

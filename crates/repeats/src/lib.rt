@@ -32,10 +32,10 @@ fn selects(what: Key, k: u8) -> bool
     ensures { λ r. ⌜ r ≡ selects what k ⌝ }
 {
     match what {
-        Key::FieldNames => table::kinds::is_named_field(k),
-        Key::TagNames => table::kinds::is_tag(k),
-        Key::TagValues => table::kinds::is_value(k),
-        Key::Sizes => table::kinds::is_size_or_count(k),
+        Key::FieldNames => kinds::is_named_field(k),
+        Key::TagNames => kinds::is_tag(k),
+        Key::TagValues => kinds::is_value(k),
+        Key::Sizes => kinds::is_size_or_count(k),
         Key::ElementSizes => k == 24,
     }
 }
@@ -69,7 +69,7 @@ fn mark_place(t: &[u8], what: Key, stamp: u16, p: usize, seen: &mut [u16], marks
     ensures { λ r. ⌜ Marked (decode (now (t .entry))) what (now (marks .exit)) × Stamped (decode (now (t .entry))) what (now (seen .exit)) r (p + 1) ⌝ }
 {
     let k = table::kind(t, p);
-    if table::kinds::is_decl(k) {
+    if kinds::is_decl(k) {
         return (p + 1) as u16;
     }
     if !selects(what, k) {
@@ -128,7 +128,7 @@ fn repeated(code: u16, t: &[u8], p: usize, found: Found) -> Finding
     match found {
         Found::At(q) => {
             let s = table::at(t, q);
-            if table::kinds::is_decl(s.kind) {
+            if kinds::is_decl(s.kind) {
                 return Finding::Fine;
             }
             Finding::One(faults::double(code, table::at(t, p), s))
@@ -141,7 +141,7 @@ fn repeated(code: u16, t: &[u8], p: usize, found: Found) -> Finding
 pub fn again(code: u16, t: &[u8], x: Target, p: usize) -> Finding
     ensures { λ r. ⌜ findings r ≡ again code (decode (now (t .entry))) x p ⌝ }
 {
-    repeated(code, t, p, table::search::nearest(t, x, p))
+    repeated(code, t, p, search::nearest(t, x, p))
 }
 
 // What a search for the key of the record at p looks for.

@@ -2,11 +2,11 @@
 pub mod starts;
 
 use faults::Finding;
+use kinds::is_size;
 use repeats::Key;
 use repeats::again_marked;
 use rules::Found;
 use rules::Target;
-use table::kinds::is_size;
 ghost use mathlib.Core.Path.{_≡_};
 ghost use Prim.Native.Nat.{_+_, _<_, _≤_};
 ghost use lib.ListN.{getD};
@@ -68,7 +68,7 @@ fn misnamed(code: u16, t: &[u8], p: usize, found: Found) -> Finding
         Found::At(q) => {
             let s = table::at(t, q);
             let k = s.kind;
-            if table::kinds::is_decl(k) {
+            if kinds::is_decl(k) {
                 return Finding::One(faults::single(code + 1, r));
             }
             if is_sized(k) {
@@ -97,9 +97,9 @@ fn first_match(t: &[u8], places: &[u16], x: Target, p: usize) -> Found
 {
     let s = start_at(places, p);
     if s == 65535 {
-        return table::search::first_within(t, x, p);
+        return search::first_within(t, x, p);
     }
-    table::search::first(t, x, s as usize)
+    search::first(t, x, s as usize)
 }
 
 // Then missing 24, 27, 30, or no array 25, 28, 31.

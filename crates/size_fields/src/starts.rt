@@ -1,6 +1,6 @@
 // Where pass 5's search for what a Size, Count or ElementSize names may start, so that few records are looked at.
-use table::kinds::is_decl;
-use table::kinds::is_size;
+use kinds::is_decl;
+use kinds::is_size;
 ghost use mathlib.Core.Path.{_≡_};
 ghost use mathlib.Core.Bool.{true};
 ghost use Prim.Native.Nat.{_+_, _<_, _≤_};

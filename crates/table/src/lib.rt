@@ -1,7 +1,4 @@
 // The records of a table, read from its bytes.
-pub mod kinds;
-pub mod search;
-
 use rules::Record;
 ghost use mathlib.Core.Path.{_≡_};
 ghost use Prim.Native.Nat.{_+_, _*_, _<_, _≤_};

@@ -22,7 +22,7 @@ use Rattle.groups.proofs.constraints.is_constraint_or_condition.Reads a
 use Rattle.groups.proofs.constraints.push_constraints.Reads as push-constraints-reads
 use Rattle.table.proofs.count.Reads as count-reads
 use Rattle.table.proofs.kind.Reads as kind-reads
-use Rattle.table.proofs.kinds.is_decl.Reads as is-decl-reads
+use Rattle.kinds.proofs.is_decl.Reads as is-decl-reads
 use Rattle.table.proofs.record.Reads as record-reads
 use Rattle.groups.proofs.+expand.{statement}
 use Rattle.groups.proofs.+expand.Tie.{close}

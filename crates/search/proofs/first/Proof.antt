@@ -1,4 +1,4 @@
--- `table::search::first` meets its contract: no place from a up to i is what is looked for. Assumes nothing.
+-- `search::first` meets its contract: no place from a up to i is what is looked for. Assumes nothing.
 use borrow.Author.Needs.{needs}
 use native.Mathlib.Omega.{arith}
 use Prim.Native.Nat.{_-_}
@@ -7,9 +7,9 @@ use lib.ListN.{length}
 use Rattle.rules.specs.Table.{decode}
 use Rattle.rules.specs.Places.{first}
 use Rattle.rules.specs.Places.{holdsAt}
 use Rattle.table.proofs.Laws.{up-hit, up-miss, up-end}
-use Rattle.table.proofs.search.first.Statement.{statement}
-use Rattle.table.proofs.search.first.Tie as tie
+use Rattle.search.proofs.first.Statement.{statement}
+use Rattle.search.proofs.first.Tie as tie
 
 abbrev Inv-loop : tie.InvT-loop
 Inv-loop t x a n i₀ i = (first (holdsAt (decode t) x) a (n - a) ≡ first (holdsAt (decode t) x) i (n - i)) × (n ≡ length (decode t))

@@ -1,12 +1,12 @@
--- `table::search::nearest` meets its contract: no place from i up to p is what is looked for. Assumes nothing.
+-- `search::nearest` meets its contract: no place from i up to p is what is looked for. Assumes nothing.
 use borrow.Author.Needs.{needs}
 use mathlib.Core.Path.{_≡_, refl, sym, _∙_}
 use Rattle.rules.specs.Table.{decode}
 use Rattle.rules.specs.Places.{nearest}
 use Rattle.rules.specs.Places.{holdsAt}
 use Rattle.table.proofs.Laws.{down-hit, down-miss, down-end}
-use Rattle.table.proofs.search.nearest.Statement.{statement}
-use Rattle.table.proofs.search.nearest.Tie as tie
+use Rattle.search.proofs.nearest.Statement.{statement}
+use Rattle.search.proofs.nearest.Tie as tie
 
 abbrev Inv-loop : tie.InvT-loop
 Inv-loop t x p i₀ i = nearest (holdsAt (decode t) x) p ≡ nearest (holdsAt (decode t) x) i

@@ -1,11 +1,11 @@
--- `table::search::first_within` meets its contract. Assumes nothing.
+-- `search::first_within` meets its contract. Assumes nothing.
 use borrow.Author.Needs.{needs}
 use native.Mathlib.Omega.{arith}
 use mathlib.Core.Path.{sym, _∙_}
 use Rattle.rules.specs.Places.{firstWithin, firstAfter}
 use Rattle.table.proofs.Laws.{nearest-below}
-use Rattle.table.proofs.search.first_within.Statement.{statement}
-use Rattle.table.proofs.search.first_within.Tie as tie
+use Rattle.search.proofs.first_within.Statement.{statement}
+use Rattle.search.proofs.first_within.Tie as tie
 
 add-first : tie.Need-add-first
 add-first c =

@@ -1,12 +1,12 @@
--- `table::search::nearest_decl` meets its contract: no place from j up to p is a declaration. Assumes nothing.
+-- `search::nearest_decl` meets its contract: no place from j up to p is a declaration. Assumes nothing.
 use borrow.Author.Needs.{needs}
 use mathlib.Core.Path.{_≡_, refl, sym, _∙_}
 use Rattle.rules.specs.Table.{decode}
 use Rattle.rules.specs.Places.{nearest, holdsAt}
 use Rattle.rules.specs.declared.Target.the-variants.{Decl}
 use Rattle.table.proofs.Laws.{down-hit, down-miss, down-end}
-use Rattle.table.proofs.search.nearest_decl.Statement.{statement}
-use Rattle.table.proofs.search.nearest_decl.Tie as tie
+use Rattle.search.proofs.nearest_decl.Statement.{statement}
+use Rattle.search.proofs.nearest_decl.Tie as tie
 
 abbrev Inv-loop : tie.InvT-loop
 Inv-loop t p j₀ j = nearest (holdsAt (decode t) Decl) p ≡ nearest (holdsAt (decode t) Decl) j

@@ -1,7 +1,7 @@
--- `table::kinds::holds` meets its contract: each arm is a clause of the definition. Assumes nothing.
+-- `search::holds` meets its contract: each arm is a clause of the definition. Assumes nothing.
 use borrow.Author.Needs.{needs}
-use Rattle.table.proofs.kinds.holds.Statement.{statement}
-use Rattle.table.proofs.kinds.holds.Tie as tie
+use Rattle.search.proofs.holds.Statement.{statement}
+use Rattle.search.proofs.holds.Tie as tie
 
 pub holds-spec : {M : Type 1} → statement M
 holds-spec =
