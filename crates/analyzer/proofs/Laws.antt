@@ -5,6 +5,7 @@ use mathlib.Core.List.{List, [], _∷_, map}
 use mathlib.Core.Bool.{Bool, true, false, not}
 use borrow.Author.Tests.{ne-eqb, lt-ltb, le-ltb, ltb-false}
 use native.Mathlib.Omega.{arith}
+use native.Mathlib.Decide.{decLt}
 use lib.ListN.{length, take, getD}
 use lib.Dec.{eqb, ltb}
 use Rattle.rules.specs.Choice.{if_then_else_}
@@ -42,8 +43,10 @@ use Rattle.groups.specs.Inlinings.{inlining, inliningBytes}
 use Rattle.groups.specs.declared.Inlining.{Inlining}
 use Rattle.groups.specs.declared.Inlining.the-variants as inlinings
 use Rattle.groups.proofs.Wholes.{length-records}
-use Rattle.groups.proofs.ReadBack.{reply-swollen, reply-unfit, reply-inlined, few-records, read-records}
-use Rattle.analyzer.specs.Listed.{byListedPass, byListed}
+use Rattle.groups.proofs.ReadBack.{reply-swollen, reply-unfit, reply-inlined, few-records, read-records, enough-room}
+use Rattle.analyzer.specs.Listed.{byListedPass, byListed, Wrote}
+use Rattle.analyzer.specs.declared.Written.{Written}
+use Rattle.analyzer.specs.declared.Written.the-variants.{Done, Short}
 
 -- ---- the layout
 
@@ -159,25 +162,51 @@ module _ (i b out b′ out′ : List ℕ) (r : order.Outcome) (h : Checked i b o
 
 -- ---- the inlined table
 
-module _ (rs : List Record) {x : Inlining} (e : x ≡ inlining (inlined rs)) where
+module _ (rs : List Record) (m : ℕ) {x : Inlining} (e : x ≡ inlining m (inlined rs)) where
   pub told-swollen : (t : List ℕ) → x ≡ inlinings.Swollen → (f : List ℕ) → answered Swollen t f ≡ bySize (inlined rs) t f
-  told-swollen t h f = reply-swollen (inlined rs) t f (sym e ∙ h)
+  told-swollen t h f = reply-swollen m (inlined rs) t f (sym e ∙ h)
+
+  pub told-short : x ≡ inlinings.NoRoom → m < 64000
+  told-short h = go (decLt m 64000)
+    where
+      go : Dec (m < 64000) → m < 64000
+      go (yes z) = z
+      go (no z) = absurd (enough-room m (inlined rs) (omega (arith, z)) (sym e ∙ h))
 
   pub told-unfit : (t : List ℕ) (k : FieldKey) → x ≡ inlinings.Unfit k → (f : List ℕ) → answered (Unfit k) t f ≡ bySize (inlined rs) t f
-  told-unfit t k h f = reply-unfit (inlined rs) t f k (sym e ∙ h)
+  told-unfit t k h f = reply-unfit m (inlined rs) t f k (sym e ∙ h)
 
-  pub inlined-few : (n : ℕ) → x ≡ inlinings.Inlined n → n ≤ 1600
-  inlined-few n h = few-records (inlined rs) n (sym e ∙ h) .0
+  pub inlined-few : (n : ℕ) → x ≡ inlinings.Inlined n → (n ≤ 1600) × (n ≡ length (inlined rs)) × (40 * n ≤ m)
+  inlined-few n h = few-records m (inlined rs) n (sym e ∙ h)
 
 -- read back from the bytes that inlining wrote
-module _ (t : List ℕ) (small : (i : ℕ) → getD t i 0 < 256) {x : Inlining} (e : x ≡ inlining (inlined (decode t))) (b : List ℕ) {b′ : List ℕ} (w : b′ ≡ inliningBytes b (inlined (decode t))) (n : ℕ) (h : x ≡ inlinings.Inlined n) where
+module _ (t : List ℕ) (small : (i : ℕ) → getD t i 0 < 256) {x : Inlining} (b : List ℕ) (e : x ≡ inlining (length b) (inlined (decode t)))
+    {b′ : List ℕ} (w : b′ ≡ inliningBytes b (inlined (decode t))) (n : ℕ) (h : x ≡ inlinings.Inlined n) where
   read-back : decode (take (40 * n) b′) ≡ map recordOf (inlined (decode t))
   read-back = rw w (read-records t small b n (sym e ∙ h))
 
   pub inlined-ready : length (decode (take (40 * n) b′)) ≤ 1600
   inlined-ready =
-      let y = few-records (inlined (decode t)) n (sym e ∙ h) in
+      let y = inlined-few (decode t) (length b) e n h in
       omega (arith, y .0, y .1, ap length read-back, length-records (inlined (decode t)))
 
-  pub told-inlined : (o : List ℕ) (r : Reply) {o′ : List ℕ} → ((f : List ℕ) → answered r o′ f ≡ flagged (decode (take (40 * n) b′)) o f) → (f : List ℕ) → answered r o′ f ≡ bySize (inlined (decode t)) o f
-  told-inlined o r d f = (rw read-back at (d f)) ∙ reply-inlined (inlined (decode t)) o f n (sym e ∙ h)
+  pub told-inlined : (o : List ℕ) (r : Reply) {o′ : List ℕ} → ((f : List ℕ) → answered r o′ f ≡ flagged (decode (take (40 * n) b′)) o f)
+      → (f : List ℕ) → answered r o′ f ≡ bySize (inlined (decode t)) o f
+  told-inlined o r d f = (rw read-back at (d f)) ∙ reply-inlined (length b) (inlined (decode t)) o f n (sym e ∙ h)
+
+-- ---- the table, written with a buffer of m bytes
+
+module _ (m : ℕ) (rs : List Record) (t t′ : List ℕ) (x : Written) (w : Wrote m rs t t′ x) where
+  pub wrote-done : (r : Reply) → x ≡ Done r → (f : List ℕ) → answered r t′ f ≡ bySize (inlined rs) t f
+  wrote-done r h = rw h at w
+
+  pub wrote-short : x ≡ Short → (t′ ≡ t) × (m < 64000)
+  wrote-short h = rw h at w
+
+  pub wrote-large : 64000 ≤ m → x ≡ Short → (r : Reply) (f : List ℕ) → answered r t′ f ≡ bySize (inlined rs) t f
+  wrote-large z h r f = absurd (omega (arith, z, wrote-short h .1))
+
+  -- the second time, on the same table buffer
+  pub wrote-again : (r : Reply) {t″ : List ℕ} → x ≡ Short → ((f : List ℕ) → answered r t″ f ≡ bySize (inlined rs) t′ f)
+      → (f : List ℕ) → answered r t″ f ≡ bySize (inlined rs) t f
+  wrote-again r h d f = d f ∙ ap (λ (y : List ℕ). bySize (inlined rs) y f) (wrote-short h .0)

@@ -11,34 +11,40 @@ use Rattle.analyzer.proofs.Laws.{faulty-order, listed-few, listed-ready
 use Rattle.analyzer.proofs.check_order.Statement.{statement}
 use Rattle.analyzer.proofs.check_order.Tie as tie
 
-few : (c : tie.After-struct-known2) → c .before .before .before .before .before .before .before .before .check-decl-identifiers .result .records ≤ length (decode (now (c .before .before .before .before .before .before .before .before .before .before .before .before .before .before .before .before .args .input)))
-few c = listed-few _ _ _ _ _ _ (c .before .before .before .before .before .before .before .before .check-decl-identifiers .ensures) (c .before .before .before .before .before .before .before .before .before .before .before .before .before .before .before .before .pre .3) (c .before .if1 .left)
+few : (c : tie.After-struct-known2) → c .before .before .before .before .before .before .before .before .check-decl-identifiers .result .records ≤ length (decode (now (c .before .before .before .before .before .before .before .before .before .before .before .before .before .before .before .args .input)))
+few c = listed-few _ _ _ _ _ _ (c .before .before .before .before .before .before .before .before .check-decl-identifiers .ensures) (c .before .before .before .before .before .before .before .before .before .before .before .before .before .before .before .pre .2) (c .before .if1 .left)
 
 returns : tie.Need-returns
-returns c = let s = c .before .before .before .before .before .before .before .before .before .before .before .before .before .before .before in faulty-order _ _ _ _ _ _ (c .before .before .before .before .before .before .before .check-decl-identifiers .ensures) (s .pre .3) (now (s .args .table)) (c .if1 .taken)
+returns c =
+    let i = c .before .before .before .before .before .before .before in
+    let s = i .before .before .before .before .before .before .before in
+    faulty-order _ _ _ _ _ _ (i .check-decl-identifiers .ensures) (s .pre .2) (now (s .args .table)) (c .if1 .taken)
 
 mul-end : tie.Need-mul-end
-mul-end c = omega (arith, few c, c .before .before .before .before .before .before .before .before .before .before .before .before .before .before .before .before .pre .0)
+mul-end c = omega (arith, few c, c .before .before .before .before .before .before .before .before .before .before .before .before .before .before .before .pre .0)
 
 slice-reshare-prefix-check-listed : tie.Need-slice-reshare-prefix-check-listed
-slice-reshare-prefix-check-listed c = omega (arith, few c, c .before .before .before .before .before .before .before .before .before .before .before .before .before .before .before .before .pre .0, c .before .before .before .before .before .before .before .before .before .before .before .before .before .before .before .before .pre .1, c .before .before .before .before .before .before .before .before .check-decl-identifiers .kept .1 .1 .0)
+slice-reshare-prefix-check-listed c = omega (arith, few c, c .before .before .before .before .before .before .before .before .before .before .before .before .before .before .before .pre .1, c .before .before .before .before .before .before .before .before .check-decl-identifiers .kept .1 .1 .0)
 
 slice-aggregate-check-listed : tie.Need-slice-aggregate-check-listed
-slice-aggregate-check-listed c = sym (length-take-le _ _ (omega (arith, few (c .before), c .before .before .before .before .before .before .before .before .before .before .before .before .before .before .before .before .before .pre .0, c .before .before .before .before .before .before .before .before .before .before .before .before .before .before .before .before .before .pre .1, c .before .before .before .before .before .before .before .before .before .check-decl-identifiers .kept .1 .1 .0)))
+slice-aggregate-check-listed c =
+    sym (length-take-le _ _ (omega (arith, few (c .before), c .before .before .before .before .before .before .before .before .before .before .before .before .before .before .before .before .pre .1, c .before .before .before .before .before .before .before .before .before .check-decl-identifiers .kept .1 .1 .0)))
 
 check-listed-requires : tie.Need-check-listed-requires
 check-listed-requires c κs =
-    let s = c .before .before .before .before .before .before .before .before .before .before .before .before .before .before .before .before .before .before .before .before in
-    let x = listed-ready _ _ _ _ _ _ (c .before .before .before .before .before .before .before .before .before .before .before .before .check-decl-identifiers .ensures) (s .pre .3) (c .before .before .before .before .before .if1 .left) (s .pre .0) in
-    (x .0, search needs, x .1)
+    let i = c .before .before .before .before .before .before .before .before .before .before .before in
+    let s = i .before .before .before .before .before .before .before in
+    listed-ready _ _ _ _ _ _ (i .check-decl-identifiers .ensures) (s .pre .2) (c .before .before .before .before .if1 .left) (s .pre .0)
 
 returns-2 : tie.Need-returns-2
-returns-2 c = let s = c .before .before .before .before .before .before .before .before .before .before .before .before .before .before .before .before .before .before .before .before .before .before .before .before .before .before .before in listed-answer _ _ _ _ _ _ (c .before .before .before .before .before .before .before .before .before .before .before .before .before .before .before .before .before .before .before .check-decl-identifiers .ensures) (s .pre .3) (c .before .before .before .before .before .before .before .before .before .before .before .before .if1 .left) (now (s .args .table)) (c .before .before .before .before .before .before .check-listed .ensures)
+returns-2 c =
+    let i = c .before .before .before .before .before .before .before .before .before .before .before .before .before .before .before .before in
+    let s = i .before .before .before .before .before .before .before in
+    listed-answer _ _ _ _ _ _ (i .check-decl-identifiers .ensures) (s .pre .2) (c .before .before .before .before .before .before .before .before .before .if1 .left) (now (s .args .table))
+    (c .before .before .before .before .check-listed .ensures)
 
 pub check-order-spec : {M : Type 1} → statement M
 check-order-spec =
     tie.close
     (tie.spec
-    (λ c κs. search needs) (λ c. search needs) (λ c. search needs) returns mul-end slice-reshare-prefix-check-listed
-    slice-aggregate-check-listed check-listed-requires (λ c. search needs) (λ c. search needs) (λ c. search needs)
-    (λ c. search needs) returns-2)
+    (λ c κs. search needs) (λ c. search needs) (λ c. search needs) returns mul-end slice-reshare-prefix-check-listed slice-aggregate-check-listed check-listed-requires (λ c. search needs) (λ c. search needs) (λ c. search needs) returns-2)
