@@ -162,22 +162,22 @@ module _ (i b out b′ out′ : List ℕ) (r : order.Outcome) (h : Checked i b o
 
 -- ---- the inlined table
 
-module _ (rs : List Record) (m : ℕ) {x : Inlining} (e : x ≡ inlining m (inlined rs)) where
-  pub told-swollen : (t : List ℕ) → x ≡ inlinings.Swollen → (f : List ℕ) → answered Swollen t f ≡ bySize (inlined rs) t f
-  told-swollen t h f = reply-swollen m (inlined rs) t f (sym e ∙ h)
+module _ (rs : List Record) (m : ℕ) {x : Inlining} (e : x ≡ inlining m (inlined rs)) (t : List ℕ) where
+  pub told-swollen : x ≡ inlinings.Swollen → Wrote m rs t t (Done Swollen)
+  unfolding Wrote
+  told-swollen h f = reply-swollen m (inlined rs) t f (sym e ∙ h)
 
-  pub told-short : x ≡ inlinings.NoRoom → m < 64000
-  told-short h = go (decLt m 64000)
+  pub told-short : x ≡ inlinings.NoRoom → Wrote m rs t t Short
+  unfolding Wrote
+  told-short h = (refl, go (decLt m 64000))
     where
       go : Dec (m < 64000) → m < 64000
       go (yes z) = z
       go (no z) = absurd (enough-room m (inlined rs) (omega (arith, z)) (sym e ∙ h))
 
-  pub told-unfit : (t : List ℕ) (k : FieldKey) → x ≡ inlinings.Unfit k → (f : List ℕ) → answered (Unfit k) t f ≡ bySize (inlined rs) t f
-  told-unfit t k h f = reply-unfit m (inlined rs) t f k (sym e ∙ h)
-
-  pub inlined-few : (n : ℕ) → x ≡ inlinings.Inlined n → (n ≤ 1600) × (n ≡ length (inlined rs)) × (40 * n ≤ m)
-  inlined-few n h = few-records m (inlined rs) n (sym e ∙ h)
+  pub told-unfit : (k : FieldKey) → x ≡ inlinings.Unfit k → Wrote m rs t t (Done (Unfit k))
+  unfolding Wrote
+  told-unfit k h f = reply-unfit m (inlined rs) t f k (sym e ∙ h)
 
 -- read back from the bytes that inlining wrote
 module _ (t : List ℕ) (small : (i : ℕ) → getD t i 0 < 256) {x : Inlining} (b : List ℕ) (e : x ≡ inlining (length b) (inlined (decode t)))
@@ -185,22 +185,26 @@ module _ (t : List ℕ) (small : (i : ℕ) → getD t i 0 < 256) {x : Inlining} 
   read-back : decode (take (40 * n) b′) ≡ map recordOf (inlined (decode t))
   read-back = rw w (read-records t small b n (sym e ∙ h))
 
-  pub inlined-ready : length (decode (take (40 * n) b′)) ≤ 1600
-  inlined-ready =
-      let y = inlined-few (decode t) (length b) e n h in
-      omega (arith, y .0, y .1, ap length read-back, length-records (inlined (decode t)))
+  pub inlined-few : (n ≤ 1600) × (n ≡ length (inlined (decode t))) × (40 * n ≤ length b)
+  inlined-few = few-records (length b) (inlined (decode t)) n (sym e ∙ h)
 
-  pub told-inlined : (o : List ℕ) (r : Reply) {o′ : List ℕ} → ((f : List ℕ) → answered r o′ f ≡ flagged (decode (take (40 * n) b′)) o f)
-      → (f : List ℕ) → answered r o′ f ≡ bySize (inlined (decode t)) o f
+  pub inlined-ready : length (decode (take (40 * n) b′)) ≤ 1600
+  inlined-ready = omega (arith, inlined-few .0, inlined-few .1, ap length read-back, length-records (inlined (decode t)))
+
+  pub told-inlined : (o : List ℕ) (r : Reply) {o′ : List ℕ}
+      → ((f : List ℕ) → answered r o′ f ≡ flagged (decode (take (40 * n) b′)) o f) → Wrote (length b) (decode t) o o′ (Done r)
+  unfolding Wrote
   told-inlined o r d f = (rw read-back at (d f)) ∙ reply-inlined (length b) (inlined (decode t)) o f n (sym e ∙ h)
 
 -- ---- the table, written with a buffer of m bytes
 
 module _ (m : ℕ) (rs : List Record) (t t′ : List ℕ) (x : Written) (w : Wrote m rs t t′ x) where
   pub wrote-done : (r : Reply) → x ≡ Done r → (f : List ℕ) → answered r t′ f ≡ bySize (inlined rs) t f
+  unfolding Wrote
   wrote-done r h = rw h at w
 
-  pub wrote-short : x ≡ Short → (t′ ≡ t) × (m < 64000)
+  wrote-short : x ≡ Short → (t′ ≡ t) × (m < 64000)
+  unfolding Wrote
   wrote-short h = rw h at w
 
   pub wrote-large : 64000 ≤ m → x ≡ Short → (r : Reply) (f : List ℕ) → answered r t′ f ≡ bySize (inlined rs) t f

@@ -21,6 +21,6 @@ unfoldable pub byListed : List Record → List ℕ → List ℕ → Answer
 byListed ls t f = byListedPass ls t f (first (findsLater ls) 3 7)
 
 -- what writing the table t gives with a buffer of m bytes: the rows from Swollen on, for any fault buffer, or t unchanged and m too small
-abbrev pub Wrote : ℕ → List Record → List ℕ → List ℕ → Written → Type 0
+unfoldable pub Wrote : ℕ → List Record → List ℕ → List ℕ → Written → Type 0
 Wrote m rs t t′ (Done r) = (f : List ℕ) → answered r t′ f ≡ bySize (inlined rs) t f
 Wrote m rs t t′ Short = (t′ ≡ t) × (m < 64000)

@@ -1,23 +1,18 @@
 -- `analyzer::write_large` meets its contract: with its buffer every table is written. Assumes nothing.
 use borrow.Author.Needs.{needs}
-use denote.Ref.{now}
-use Rattle.rules.specs.Table.{decode}
 use Rattle.analyzer.proofs.Laws.{wrote-done, wrote-large}
 use Rattle.analyzer.proofs.write_large.Statement.{statement}
 use Rattle.analyzer.proofs.write_large.Tie as tie
 
 returns : tie.Need-returns
-returns c =
-    let s = c .before .before .before .before .before .before .before .before .before .before .before in
-    wrote-done _ (decode (now (s .args .listed))) (now (s .args .table)) _ _ (c .before .before .before .before .before .before .write-table .ensures) _ (c .before .reply .given .1)
+returns c = wrote-done _ _ _ _ _ (c .before .before .before .before .before .before .write-table .ensures) _ (c .before .reply .given .1)
 
 returns-2 : tie.Need-returns-2
-returns-2 c =
-    let s = c .before .before .before .before .before .before .before .before .before .before in
-    wrote-large _ (decode (now (s .args .listed))) (now (s .args .table)) _ _ (c .before .before .before .before .before .write-table .ensures) (search needs) (c .enum-told .given .1) _
+returns-2 c = wrote-large _ _ _ _ _ (c .before .before .before .before .before .write-table .ensures) (search needs) (c .enum-told .given .1) _
 
 pub write-large-spec : {M : Type 1} → statement M
 write-large-spec =
     tie.close
     (tie.spec
-    (λ c. search needs) (λ c κs. search needs) (λ c. search needs) (λ c. search needs) (λ c. search needs) returns (λ c. search needs) returns-2)
+    (λ c. search needs) (λ c κs. search needs) (λ c. search needs) (λ c. search needs) (λ c. search needs) returns
+    (λ c. search needs) returns-2)

@@ -2,17 +2,23 @@
 use borrow.Author.Needs.{needs}
 use denote.Ref.{now}
 use native.Mathlib.Omega.{arith}
-use mathlib.Core.Path.{refl, sym}
+use mathlib.Core.Path.{sym}
 use Prim.Native.Nat.{_*_, _≤_}
 use lib.ListN.{length}
 use lib.Seq.{length-take-le}
-use Rattle.rules.specs.Table.{decode}
 use Rattle.analyzer.proofs.Laws.{told-swollen, told-short, told-unfit, inlined-few, inlined-ready, told-inlined}
 use Rattle.analyzer.proofs.write_table.Statement.{statement}
 use Rattle.analyzer.proofs.write_table.Tie as tie
 
-few : (c : tie.After-known-told2) → (c .before .n .given .0 .0 ≤ 1600) × (40 * c .before .n .given .0 .0 ≤ length (now (c .before .before .before .before .before .before .before .before .before .before .args .expanded)))
-few c = let s = c .before .before .before .before .before .before .before .before .before .before in let x = inlined-few (decode (now (s .args .listed))) (length (now (s .args .expanded))) (c .before .before .before .before .before .inline-groups .ensures .0 .0) _ (c .before .n .given .1) in (x .0, x .2)
+few : (c : tie.After-known-told2)
+    → (c .before .n .given .0 .0 ≤ 1600) × (40 * c .before .n .given .0 .0 ≤ length (now (c .before .before .before .before .before .before .before .before .before .before .args .expanded)))
+few c =
+    let i = c .before .before .before .before .before in
+    let s = i .before .before .before .before .before in
+    let x =
+    inlined-few (now (s .args .listed)) (λ k. omega (arith, i .before .before .before .before .shared-slice-known .given k)) (now (s .args .expanded))
+    (i .inline-groups .ensures .0 .0) (i .inline-groups .ensures .0 .1) _ (c .before .n .given .1) in
+    (x .0, x .2)
 
 mul-end : tie.Need-mul-end
 mul-end c = omega (arith, few c .0)
@@ -31,17 +37,13 @@ desugar-flags-requires c κs =
     (i .inline-groups .ensures .0 .0) (i .inline-groups .ensures .0 .1) _ (c .before .before .before .n .given .1)
 
 returns : tie.Need-returns
-returns c =
-    let s = c .before .before .before .before .before .before .before .before .before in
-    told-swollen (decode (now (s .args .listed))) _ (c .before .before .before .before .inline-groups .ensures .0 .0) (now (s .args .table)) (c .enum-told .given .1)
+returns c = told-swollen _ _ (c .before .before .before .before .inline-groups .ensures .0 .0) _ (c .enum-told .given .1)
 
 returns-2 : tie.Need-returns-2
-returns-2 c = (refl, told-short (decode (now (c .before .before .before .before .before .before .before .before .before .args .listed))) _ (c .before .before .before .before .inline-groups .ensures .0 .0) (c .enum-told2 .given .1))
+returns-2 c = told-short _ _ (c .before .before .before .before .inline-groups .ensures .0 .0) _ (c .enum-told2 .given .1)
 
 returns-3 : tie.Need-returns-3
-returns-3 c =
-    let s = c .before .before .before .before .before .before .before .before .before .before in
-    told-unfit (decode (now (s .args .listed))) _ (c .before .before .before .before .before .inline-groups .ensures .0 .0) (now (s .args .table)) _ (c .before .key .given .1)
+returns-3 c = told-unfit _ _ (c .before .before .before .before .before .inline-groups .ensures .0 .0) _ _ (c .before .key .given .1)
 
 returns-4 : tie.Need-returns-4
 returns-4 c =
@@ -55,4 +57,6 @@ pub write-table-spec : {M : Type 1} → statement M
 write-table-spec =
     tie.close
     (tie.spec
-    (λ c κs. search needs) (λ c. search needs) (λ c. search needs) (λ c. search needs) (λ c. search needs) mul-end slice-reshare-prefix-desugar-flags slice-aggregate-desugar-flags desugar-flags-requires (λ c. search needs) returns (λ c. search needs) returns-2 (λ c. search needs) returns-3 (λ c. search needs) (λ c. search needs) returns-4)
+    (λ c κs. search needs) (λ c. search needs) (λ c. search needs) (λ c. search needs) (λ c. search needs) mul-end
+    slice-reshare-prefix-desugar-flags slice-aggregate-desugar-flags desugar-flags-requires (λ c. search needs) returns
+    (λ c. search needs) returns-2 (λ c. search needs) returns-3 (λ c. search needs) (λ c. search needs) returns-4)
