@@ -3,31 +3,30 @@ use Prim.Native.Nat.{ℕ, zero, suc, _+_, _-_, _*_, _<_, _≤_, min}
 use mathlib.Core.Path.{_≡_, refl, sym, ap, _∙_}
 use mathlib.Core.List.{List, [], _∷_, _++_}
 use mathlib.Core.Bool.{Bool, true, false, _&&_, _||_}
-use mathlib.Core.Logic.{_⊎_, inl, inr}
+use mathlib.Core.Logic.{inl, inr}
 use native.Mathlib.Omega.{arith}
-use native.Mathlib.Numerals.{add-one}
 use native.Mathlib.Nat.{not-suc-le-zero, le-of-suc-le-suc}
 use native.Mathlib.Decide.{decLt}
-use borrow.Author.Tests.{eq-eqb, ne-eqb, eqb-true, leb-true}
-use lib.Dec.{eqb, leb}
+use borrow.Author.Tests.{eq-eqb, ne-eqb, eqb-true}
+use lib.Dec.{eqb}
 use lib.ListN.{length, getD, take, length-append}
 use lib.Seq.{take-take, length-take-le, take-append-le}
-use Rattle.rules.specs.Choice.{if_then_else_}
 use Rattle.rules.specs.Table.{at}
 use Rattle.rules.specs.Places.{nearest, holdsAt, declNamed}
 use Rattle.rules.specs.Kinds.{isDecl}
 use Rattle.rules.specs.InlineGroups.{isConstraintOrCondition, afterGroup, constraints, ownConstraints, groupFields, inlinedRecord, inlinedField, inlinedFields, expand}
 use Rattle.rules.specs.declared.Record.{Record}
 use Rattle.rules.specs.declared.Inlined.{Inlined}
-use Rattle.rules.specs.declared.Found.{Found}
-use Rattle.rules.specs.declared.Found.the-variants.{At, Nothing}
+use Rattle.rules.specs.declared.Found.the-variants.{At}
 use Rattle.rules.specs.declared.Target.the-variants.{Decl}
 use Rattle.order.specs.GroupsFirst.{GroupsFirst}
 use Rattle.groups.specs.declared.Progress.{Progress}
-use Rattle.groups.specs.Sizes.{Resolved, sizeAt, fieldsSize, sizeFrom, Sized}
+use Rattle.group_sizes.specs.Sizes.{Resolved, sizeAt, fieldsSize, sizeFrom, Sized}
 use Rattle.groups.specs.Outputs.{Output, output, added, addedAll, Ready, Expanded}
-use Rattle.table.proofs.Searches.{false-true, and-true, at-inj}
-use Rattle.groups.proofs.Steps.{left-suc, left-none, named-in, named-declares, group-before}
+use Rattle.table.proofs.Searches.{false-true, at-inj}
+use Rattle.constraints.proofs.Laws.{left-suc, left-none}
+use Rattle.group_sizes.proofs.Resolves.{named-in, named-declares, group-before}
+use Rattle.group_sizes.proofs.Fields.{here-start, here-next, after-start, after-next, size-next, size-end, Ends}
 
 -- what the records from p on become
 abbrev pub fieldsFrom : (List ℕ → ℕ → List Inlined) → List Record → List ℕ → ℕ → List Inlined
@@ -37,20 +36,9 @@ fieldsFrom e rs env p = inlinedFields e rs env p (length rs - p)
 pub min-sum : (a b c d : ℕ) → min 1601 a ≡ min 1601 c → min 1601 b ≡ min 1601 d → min 1601 (a + b) ≡ min 1601 (c + d)
 min-sum a b c d h g = omega arith
 
-decl-below : (k : ℕ) → isDecl k ≡ true → k ≤ 7
-decl-below k e = leb-true k 7 (and-true (leb 1 k) (leb k 7) e .1)
-
 -- ---- declarations and the places after them
 
 module _ (rs : List Record) where
-  pub here-start : (d : ℕ) → isDecl (at rs d .kind) ≡ true → nearest (holdsAt rs Decl) (d + 1) ≡ At d
-  unfolding nearest
-  here-start d e = rw (add-one d, nearest, e)
-
-  pub here-next : (p : ℕ) {f : Found} → isDecl (at rs p .kind) ≡ false → nearest (holdsAt rs Decl) p ≡ f → nearest (holdsAt rs Decl) (p + 1) ≡ f
-  unfolding nearest
-  here-next p e h = rw (add-one p, nearest, e) h
-
   -- what comes after the declaration at d belongs to d or to a later one
   here-past : (d : ℕ) → isDecl (at rs d .kind) ≡ true → (e : ℕ) {x : ℕ} → nearest (holdsAt rs Decl) e ≡ At x → x < d → e ≤ d
   unfolding nearest
@@ -65,39 +53,16 @@ module _ (rs : List Record) where
       go r true i = let z : e ≡ x = at-inj (rw (nearest, i) at q) in omega arith
       go r false i = differ i (r x (rw (nearest, i) at q) l) (decLt e d)
 
-  pub after-start : (d : ℕ) → isDecl (at rs d .kind) ≡ true → false ≡ afterGroup rs (d + 1)
-  unfolding afterGroup
-  after-start d e =
-      let k = decl-below (at rs d .kind) e in
-      sym (rw (add-one d, afterGroup, ne-eqb (at rs d .kind) 34 (λ z. omega arith), ne-eqb (at rs d .kind) 10 (λ z. omega arith), ne-eqb (at rs d .kind) 11 (λ z. omega arith)))
-
-  pub after-next : (p : ℕ) {b : Bool} → b ≡ afterGroup rs p → (eqb (at rs p .kind) 34 || (isConstraintOrCondition (at rs p .kind) && b)) ≡ afterGroup rs (p + 1)
-  unfolding afterGroup
-  after-next p e = rw (add-one p, afterGroup, e)
-
   -- ---- the records of a declaration, one at a time
-  module _ (p : ℕ) (l : p < length rs) (o : isDecl (at rs p .kind) ≡ false) where
-    fields-next : (e : List ℕ → ℕ → List Inlined) (env : List ℕ) → fieldsFrom e rs env p ≡ inlinedField e rs env p ++ fieldsFrom e rs env (p + 1)
-    unfolding inlinedFields
-    fields-next e env = rw (left-suc (length rs) p l, inlinedFields, o)
+  fields-next : (p : ℕ) → p < length rs → isDecl (at rs p .kind) ≡ false → (e : List ℕ → ℕ → List Inlined) (env : List ℕ)
+      → fieldsFrom e rs env p ≡ inlinedField e rs env p ++ fieldsFrom e rs env (p + 1)
+  unfolding inlinedFields
+  fields-next p l o e env = rw (left-suc (length rs) p l, inlinedFields, o)
 
-    pub size-next : (targets sizes : List ℕ) → sizeFrom targets sizes rs p ≡ sizeAt targets sizes rs p + sizeFrom targets sizes rs (p + 1)
-    unfolding fieldsSize
-    size-next targets sizes = rw (left-suc (length rs) p l, fieldsSize, o)
-
-  -- they end at the next declaration, or with the table
-  abbrev pub Ends : ℕ → Type 0
-  Ends p = ((p < length rs) × (isDecl (at rs p .kind) ≡ true)) ⊎ (length rs ≤ p)
-
-  fields-end : (p : ℕ) → Ends p → (e : List ℕ → ℕ → List Inlined) (env : List ℕ) → fieldsFrom e rs env p ≡ []
+  fields-end : (p : ℕ) → Ends rs p → (e : List ℕ → ℕ → List Inlined) (env : List ℕ) → fieldsFrom e rs env p ≡ []
   unfolding inlinedFields
   fields-end p (inl h) e env = rw (left-suc (length rs) p (h .0), inlinedFields, h .1)
   fields-end p (inr h) e env = rw (left-none (length rs) p h, inlinedFields)
-
-  pub size-end : (p : ℕ) → Ends p → (targets sizes : List ℕ) → sizeFrom targets sizes rs p ≡ 0
-  unfolding fieldsSize
-  size-end p (inl h) targets sizes = rw (left-suc (length rs) p (h .0), fieldsSize, h .1)
-  size-end p (inr h) targets sizes = rw (left-none (length rs) p h, fieldsSize)
 
 -- ---- records one after another
 
@@ -380,26 +345,6 @@ module _ {rs : List Record} {targets sizes : List ℕ} {d : ℕ} {env₀ : List 
               let q = size-one in
               let c : s₂ .count ≡ s .count + 1 = ap (λ (u : Output). u .progress .count) x in
               walk-next (λ k i. x ∙ rw (inlinedField, ne-eqb _ _ k34, h, w .kept)) (omega arith) refl refl e
-
--- ---- what a turn has read of the record at p, which is no declaration: its kind k, and c: it is a constraint or a condition
-pub record Seen (rs : List Record) (p k : ℕ) (c : Bool) : Type 0 where
-  pub below : p < length rs
-  pub inside : isDecl (at rs p .kind) ≡ false
-  pub is-kind : k ≡ at rs p .kind
-  pub is-bound : c ≡ isConstraintOrCondition (at rs p .kind)
-
-module _ {rs : List Record} {p k : ℕ} {c : Bool} (h : Seen rs p k c) where
-  pub seen-flag : (after : Bool) → (eqb k 34 || (c && after)) ≡ (eqb (at rs p .kind) 34 || (isConstraintOrCondition (at rs p .kind) && after))
-  seen-flag after = rw (h .is-kind, h .is-bound)
-
-  pub seen-group : k ≡ 34 → at rs p .kind ≡ 34
-  seen-group e = sym (h .is-kind) ∙ e
-
-  pub seen-other : ¬ (k ≡ 34) → ¬ (at rs p .kind ≡ 34)
-  seen-other n e = n (h .is-kind ∙ e)
-
-  pub seen-bound : (after b : Bool) → (c && after) ≡ b → (isConstraintOrCondition (at rs p .kind) && after) ≡ b
-  seen-bound after b e = rw (h .is-bound) at e
 
 pub added-record : (rs : List Record) (env : List ℕ) (o : Output) {r r′ : Record} {x : Inlined} {m : Output} → r ≡ r′ → x ≡ inlinedRecord rs env r → m ≡ added o x → m ≡ added o (inlinedRecord rs env r′)
 added-record rs env o q e k = k ∙ rw (e, q)

@@ -1,6 +1,5 @@
-pub mod Steps
 pub mod Expands
-pub mod Measures
+pub mod Totals
 pub mod Wholes
 pub mod Codec
 pub mod ReadBack

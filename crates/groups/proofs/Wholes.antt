@@ -2,7 +2,7 @@
 use Prim.Native.Nat.{ℕ, suc, _+_, _-_, _*_, _<_, _≤_}
 use mathlib.Core.Path.{_≡_, refl, sym, ap, _∙_}
 use mathlib.Core.List.{List, [], _∷_, _++_, map, append-nil}
-use mathlib.Core.Bool.{Bool, true, false, not}
+use mathlib.Core.Bool.{Bool, true, false}
 use native.Mathlib.Omega.{arith}
 use native.Mathlib.Nat.{zero-add, add-zero}
 use borrow.Author.Tests.{lt-ltb, le-ltb}
@@ -22,11 +22,12 @@ use Rattle.groups.specs.declared.Fit.{Fit}
 use Rattle.groups.specs.declared.Fit.the-variants.{Fine, Unfit}
 use Rattle.groups.specs.declared.Inlining.{Inlining}
 use Rattle.groups.specs.declared.Inlining.the-variants.{Swollen, NoRoom}
-use Rattle.groups.specs.Sizes.{Resolved, totalSize, Sized}
+use Rattle.group_sizes.specs.Sizes.{Resolved, totalSize, Sized}
 use Rattle.groups.specs.Outputs.{Output, output, judged, added, addedAll, empty, byFit, Ready, Expanded, Room}
 use Rattle.groups.specs.Inlinings.{byUnfit, inlining, inliningBytes}
 use Rattle.groups.proofs.Expands.{added-append}
-use Rattle.groups.proofs.Measures.{total-next, total-other, total-rises, inlined-size, kept-decl}
+use Rattle.group_sizes.proofs.Measures.{total-next, total-other}
+use Rattle.groups.proofs.Totals.{total-rises, inlined-size, kept-decl}
 
 -- ---- bytes
 

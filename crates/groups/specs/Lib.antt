@@ -1,3 +1,2 @@
 pub mod Inlinings
-pub mod Sizes
 pub mod Outputs

@@ -1,15 +1,15 @@
 -- Records written one after another, and what the recursion over the groups needs and gives.
-use Prim.Native.Nat.{ℕ, suc, _+_, _-_, _*_, _≤_, _<_}
+use Prim.Native.Nat.{ℕ, _+_, _*_, _≤_, _<_}
 use mathlib.Core.Path.{_≡_}
 use mathlib.Core.List.{List, [], _∷_}
-use mathlib.Core.Bool.{Bool, true}
+use mathlib.Core.Bool.{true}
 use lib.ListN.{length, getD, take}
 use Rattle.rules.specs.Choice.{if_then_else_}
 use Rattle.rules.specs.Bytes.{written}
 use Rattle.rules.specs.Table.{at, recordBytes, fieldKey}
 use Rattle.rules.specs.Places.{nearest, holdsAt}
 use Rattle.rules.specs.Kinds.{isDecl}
-use Rattle.rules.specs.InlineGroups.{constraints, expand}
+use Rattle.rules.specs.InlineGroups.{expand}
 use Rattle.rules.specs.declared.Record.{Record}
 use Rattle.rules.specs.declared.Inlined.{Inlined}
 use Rattle.rules.specs.declared.Found.the-variants.{At}
@@ -20,11 +20,7 @@ use Rattle.groups.specs.declared.Fit.{Fit}
 use Rattle.groups.specs.declared.Fit.the-variants.{Fine, Unfit}
 use Rattle.groups.specs.declared.Inlining.{Inlining}
 use Rattle.groups.specs.declared.Inlining.the-variants as inlinings
-use Rattle.groups.specs.Sizes.{Resolved, Sized, totalSize}
-
--- the constraints from p on
-abbrev pub constraintsFrom : List Record → ℕ → List ℕ
-constraintsFrom rs p = constraints rs p (length rs - p)
+use Rattle.group_sizes.specs.Sizes.{Resolved, Sized, totalSize}
 
 -- the first record that is not fit tells its key
 unfoldable pub judged : Fit → Inlined → Fit

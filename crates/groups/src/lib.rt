@@ -1,20 +1,17 @@
 // Module 11: each group field becomes the fields of its group, fixed as its constraints say.
-pub mod constraints;
-pub mod sizes;
-
 use constraints::inlined_record;
 use constraints::is_constraint_or_condition;
 use constraints::push_constraints;
+use group_sizes::is_kept;
 use rules::FieldKey;
 use rules::Inlined;
-use sizes::is_kept;
 ghost use mathlib.Core.Path.{_≡_};
 ghost use Prim.Native.Nat.{_+_, _*_, _≤_};
 ghost use lib.ListN.{length};
 ghost use Rattle.rules.specs.Table.{decode};
 ghost use Rattle.rules.specs.InlineGroups.{inlined};
 ghost use Rattle.order.specs.GroupsFirst.{GroupsFirst};
-ghost use Rattle.groups.specs.Sizes.{totalSize};
+ghost use Rattle.group_sizes.specs.Sizes.{totalSize};
 ghost use Rattle.groups.specs.Outputs.{judged, output, added, addedAll, empty, byFit, Room, Ready, Expanded};
 ghost use Rattle.groups.specs.Inlinings.{inlining, inliningNumbered, inliningBytes};
 
@@ -159,9 +156,9 @@ fn inline_with(
     requires { ⌜ GroupsFirst (decode (now t)) ⌝ }
     ensures { λ r. ⌜ (r ≡ inlining (length (now (out .entry))) (inlined (decode (now (t .entry))))) × (now (out .exit) ≡ inliningBytes (now (out .entry)) (inlined (decode (now (t .entry))))) ⌝ }
 {
-    sizes::resolve(t, targets);
-    sizes::measure(t, targets, sizes);
-    let n = sizes::total(t, sizes);
+    group_sizes::resolve(t, targets);
+    group_sizes::measure(t, targets, sizes);
+    let n = group_sizes::total(t, sizes);
     if 1600 < n {
         return Inlining::Swollen;
     }

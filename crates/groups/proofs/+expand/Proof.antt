@@ -12,14 +12,15 @@ use denote.Ref.{now}
 use borrow.Fn.Kinds.{In}
 use borrow.Fn.PlainCycle.{Measures, is, falls, and}
 use Rattle.rules.specs.Table.{decode}
-use Rattle.groups.proofs.Expands.{Walking, Seen, seen-flag, seen-group, seen-other, seen-bound, added-record, walk-start, walk-end, env-stack, group-in, call-push, turn-empty, call-expand, turn-group, turn-lost, call-add, turn-one}
+use Rattle.group_sizes.proofs.Fields.{Seen, seen-flag, seen-group, seen-other, seen-bound}
+use Rattle.groups.proofs.Expands.{Walking, added-record, walk-start, walk-end, env-stack, group-in, call-push, turn-empty, call-expand, turn-group, turn-lost, call-add, turn-one}
 use Rattle.groups.proofs.expand.Reads as expand
 use Rattle.groups.proofs.expand.Kinds as expand-kinds
 use Rattle.groups.proofs.+expand.Lts-expand as expand-lts
 use Rattle.groups.proofs.add.Reads as add-reads
-use Rattle.groups.proofs.constraints.inlined_record.Reads as inlined-record-reads
-use Rattle.groups.proofs.constraints.is_constraint_or_condition.Reads as is-constraint-or-condition-reads
-use Rattle.groups.proofs.constraints.push_constraints.Reads as push-constraints-reads
+use Rattle.constraints.proofs.inlined_record.Reads as inlined-record-reads
+use Rattle.constraints.proofs.is_constraint_or_condition.Reads as is-constraint-or-condition-reads
+use Rattle.constraints.proofs.push_constraints.Reads as push-constraints-reads
 use Rattle.table.proofs.count.Reads as count-reads
 use Rattle.table.proofs.kind.Reads as kind-reads
 use Rattle.kinds.proofs.is_decl.Reads as is-decl-reads

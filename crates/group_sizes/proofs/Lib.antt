@@ -1,0 +1,3 @@
+pub mod Resolves
+pub mod Fields
+pub mod Measures
