@@ -2,7 +2,7 @@
 pub mod array_fields;
 pub mod field_identifiers;
 pub mod fixed_fields;
-pub mod members;
+mod members;
 pub mod padding_fields;
 pub mod payload_fields;
 pub mod scope;

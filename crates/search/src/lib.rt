@@ -66,7 +66,7 @@ pub fn first(t: &[u8], x: Target, a: usize) -> Found
 }
 
 // The declaration that p stands in. The search for a target reads whole records, this one only kinds.
-pub fn nearest_decl(t: &[u8], p: usize) -> Found
+fn nearest_decl(t: &[u8], p: usize) -> Found
     ensures { λ r. ⌜ r ≡ nearest (holdsAt (decode (now (t .entry))) Target.Decl) p ⌝ }
 {
     let mut j = p;

@@ -34,7 +34,7 @@ pub fn number4(t: &[u8], i: usize) -> u32
 }
 
 // The eight bytes from i.
-pub fn number8(t: &[u8], i: usize) -> u64
+fn number8(t: &[u8], i: usize) -> u64
     requires { ⌜ i + 8 ≤ length (now t) ⌝ }
     ensures { λ r. ⌜ r ≡ numberAt (now (t .entry)) i 8 ⌝ }
 {
