@@ -1,5 +1,8 @@
 -- `passes::array_fields::at_place` meets its contract. Assumes nothing.
 use borrow.Author.Needs.{needs}
+use mathlib.Core.Path.{_≡_}
+use mathlib.Core.Bool.{true, _&&_}
+use lib.Dec.{eqb, leb}
 use Rattle.rules.specs.ArrayFields.{pass8At}
 use Rattle.passes.proofs.array_fields.at_place.Statement.{statement}
 use Rattle.passes.proofs.array_fields.at_place.Tie as tie
@@ -10,7 +13,8 @@ returns c =
     let f = c .before in
     let i = f .before in
     let a = i .before .before .before in
-    rw (← a .at .ensures, i .if1 .taken, ← f .first-size .ensures) (c .redundant-size .ensures)
+    let z : (eqb (a .at .result .kind) 30 && leb 2 (a .at .result .marks)) ≡ true = i .if1 .taken in
+    rw (← a .at .ensures, z, ← f .first-size .ensures) (c .redundant-size .ensures)
 
 returns-2 : tie.Need-returns-2
 unfolding pass8At

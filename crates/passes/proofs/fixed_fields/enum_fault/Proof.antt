@@ -1,10 +1,20 @@
 -- `passes::fixed_fields::enum_fault` meets its contract: each way out is a case of the definition. Assumes nothing.
 use borrow.Author.Needs.{needs}
 use borrow.Author.Tests.{eq-eqb, ne-eqb}
-use mathlib.Core.Path.{sym, _∙_}
+use mathlib.Core.Path.{_≡_, sym, _∙_}
+use Prim.Native.Nat.{ℕ, _+_}
+use mathlib.Core.Bool.{Bool}
+use mathlib.Core.List.{List}
+use Rattle.rules.specs.Places.{firstFrom, foundInside}
 use Rattle.rules.specs.FixedFields.{enumFault}
+use Rattle.rules.specs.declared.Record.{Record}
+use Rattle.rules.specs.declared.Target.the-variants.{OuterTagOrDecl}
 use Rattle.passes.proofs.fixed_fields.enum_fault.Statement.{statement}
 use Rattle.passes.proofs.fixed_fields.enum_fault.Tie as tie
+
+-- the tag is looked for outside the ranges
+tagged : (rs : List Record) (x d : ℕ) (b : Bool) → b ≡ foundInside rs (firstFrom rs (OuterTagOrDecl x) (d + 1)) → foundInside rs (firstFrom rs (OuterTagOrDecl x) (d + 1)) ≡ b
+tagged rs x d b e = sym e
 
 -- no enum
 returns : tie.Need-returns
@@ -25,7 +35,7 @@ returns-2 c =
     let a = i .before .before in
     let f = a .before .before in
     let t = f .before .before in
-    rw (f .found .given .1, ← a .at2 .ensures, eq-eqb _ _ (i .if1 .left), ← t .at .ensures, sym (h .has-member .ensures) ∙ c .if2 .taken)
+    rw (f .found .given .1, ← a .at2 .ensures, eq-eqb _ _ (i .if1 .left), ← t .at .ensures, tagged _ _ _ _ (h .has-member .ensures) ∙ c .if2 .taken)
 
 -- a missing tag
 returns-3 : tie.Need-returns-3
@@ -37,7 +47,7 @@ returns-3 c =
     let a = f .before .before in
     let o = a .before .before in
     let t = o .before .before in
-    rw (c .double2 .ensures, o .found .given .1, ← a .at2 .ensures, eq-eqb _ _ (f .if1 .left), ← t .at .ensures, sym (h .has-member .ensures) ∙ i .if2 .left)
+    rw (c .double2 .ensures, o .found .given .1, ← a .at2 .ensures, eq-eqb _ _ (f .if1 .left), ← t .at .ensures, tagged _ _ _ _ (h .has-member .ensures) ∙ i .if2 .left)
 
 -- a missing enum
 returns-4 : tie.Need-returns-4

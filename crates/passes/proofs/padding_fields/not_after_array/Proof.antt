@@ -10,7 +10,7 @@ unfolding notAfterArray
 returns c =
     let k = c .before in
     let f = k .before .before in
-    rw (f .found .given .1, ← k .kind .ensures, eq-eqb _ _ (c .if1 .taken))
+    rw (f .found .given .1, ← k .kind .ensures, eq-eqb _ 30 (c .if1 .taken))
 
 returns-2 : tie.Need-returns-2
 unfolding notAfterArray
@@ -19,7 +19,7 @@ returns-2 c =
     let f = k .before .before in
     let s = f .before .before in
     let a = s .before in
-    rw (s .single .ensures, a .at .ensures, f .found .given .1, ← k .kind .ensures, ne-eqb _ _ (c .if1 .left))
+    rw (s .single .ensures, a .at .ensures, f .found .given .1, ← k .kind .ensures, ne-eqb _ 30 (c .if1 .left))
 
 returns-3 : tie.Need-returns-3
 unfolding notAfterArray
