@@ -1,8 +1,4 @@
 // Pass 4, `check_enum_declarations`: the tags of each enum.
-mod bounds;
-mod ranges;
-mod tags;
-
 use repeats::Key;
 use rules::Found;
 use rules::Tally;
@@ -18,7 +14,7 @@ ghost use Rattle.rules.specs.Faults.{log, logged};
 ghost use Rattle.rules.specs.EnumDeclarations.{tagsFaults, enumFaults, pass4At, pass4};
 ghost use Rattle.faults.specs.Notes.{notedAll};
 ghost use Rattle.repeats.specs.Marks.{Marked};
-ghost use Rattle.enums.specs.Bounds.{Bounds};
+ghost use Rattle.ranges.specs.Bounds.{Bounds};
 ghost use Rattle.repeats.specs.declared.Key.the-variants.{TagNames, TagValues};
 
 // How many tags the enum at d has: those up to the next declaration.

@@ -12,8 +12,8 @@ use Rattle.rules.specs.Faults.{log}
 use Rattle.rules.specs.EnumDeclarations.{tagFaults, tagsFaults}
 use Rattle.faults.specs.Notes.{notedAll}
 use Rattle.faults.proofs.Laws.{noted-start, noted-place, noted-end, each-total}
-use Rattle.enums.specs.Bounds.{rangeBefore}
-use Rattle.enums.proofs.Laws.{tag-few}
+use Rattle.tags.specs.Before.{rangeBefore}
+use Rattle.tags.proofs.Laws.{tag-few}
 use Rattle.enums.proofs.note_tags.Statement.{statement}
 use Rattle.enums.proofs.note_tags.Tie as tie
 
