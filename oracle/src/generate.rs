@@ -34,15 +34,25 @@ pub(crate) struct Bounds {
 /// The case of a seed. Call it on a deep stack: some buffer lengths depend on the answer.
 pub fn generate(seed: u64) -> Case {
     let mut random = Random::new(seed);
+    let input = case_bytes(&mut random);
+    let table_len = table_length(&mut random, &input, 80, PROGRAM_BUFFER);
+    let fault_len = fault_length(&mut random, 80, PROGRAM_BUFFER);
+    Case { input, table_len, fault_len }
+}
+
+/// The table of a seed's case alone, without an answer to it.
+pub fn generate_input(seed: u64) -> Vec<u8> {
+    case_bytes(&mut Random::new(seed))
+}
+
+/// The bytes of a table that is mostly small.
+fn case_bytes(random: &mut Random) -> Vec<u8> {
     let bounds = match random.weighted(&[60, 35, 5]) {
         0 => Bounds { declarations: random.between(0, 5), parts: 5, is_small: false },
         1 => Bounds { declarations: random.between(2, 14), parts: 9, is_small: false },
         _ => Bounds { declarations: random.between(20, 90), parts: 22, is_small: false },
     };
-    let input = table_bytes(&mut random, bounds);
-    let table_len = table_length(&mut random, &input, 80, PROGRAM_BUFFER);
-    let fault_len = fault_length(&mut random, 80, PROGRAM_BUFFER);
-    Case { input, table_len, fault_len }
+    table_bytes(random, bounds)
 }
 
 /// The case of a seed with at most `most` records and small buffers, for a slow checker.

@@ -4,6 +4,7 @@ mod bench;
 mod compare;
 #[path = "../../pdl_console.rs"]
 mod pdl_console;
+mod slowest;
 
 use compare::Comparison;
 use oracle::answer::on_deep_stack;
@@ -11,7 +12,11 @@ use std::process::ExitCode;
 
 const USAGE: &str = "usage:
   compare compare COUNT [--seed S]    replies and buffers on COUNT generated cases
-  compare bench                       times beside the Rust passes";
+  compare bench                       times beside the Rust passes
+  compare slowest [COUNT] [--seed S]  the slowest of built tables, of COUNT random ones and of COUNT changes; fails over 50 ms";
+
+/// How many random tables and changes are tried if no number is given.
+const USUAL_COUNT: u64 = 500;
 
 fn main() -> ExitCode {
     let arguments: Vec<String> = std::env::args().skip(1).collect();
@@ -29,6 +34,10 @@ fn run(arguments: &[&str]) -> Result<ExitCode, String> {
     match arguments {
         ["compare", count] => Ok(run_compare(0, number(count)?)),
         ["compare", count, "--seed", seed] => Ok(run_compare(number(seed)?, number(count)?)),
+        ["slowest"] => Ok(run_slowest(0, USUAL_COUNT)),
+        ["slowest", count] => Ok(run_slowest(0, number(count)?)),
+        ["slowest", "--seed", seed] => Ok(run_slowest(number(seed)?, USUAL_COUNT)),
+        ["slowest", count, "--seed", seed] => Ok(run_slowest(number(seed)?, number(count)?)),
         ["bench"] => {
             print!("{}", on_deep_stack(bench::text));
             Ok(ExitCode::SUCCESS)
@@ -51,4 +60,9 @@ fn run_compare(first_seed: u64, count: u64) -> ExitCode {
     let first: Vec<String> = outcome.differing_seeds.iter().take(10).map(u64::to_string).collect();
     println!("{} cases differ, seeds {}", outcome.differing_seeds.len(), first.join(", "));
     ExitCode::FAILURE
+}
+
+fn run_slowest(first_seed: u64, count: u64) -> ExitCode {
+    let is_over = on_deep_stack(|| slowest::is_over_limit(first_seed, count));
+    ExitCode::from(u8::from(is_over))
 }
