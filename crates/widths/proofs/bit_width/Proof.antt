@@ -8,4 +8,7 @@ cast-result : tie.Need-cast-result
 cast-result c = omega (arith, zeros-below (c .args .value))
 
 pub bit-width-spec : {M : Type 1} → statement M
-bit-width-spec = tie.close (tie.spec cast-result (λ c. zeros-below (c .args .value)) (λ c. width-of-zeros (c .args .value)))
+bit-width-spec =
+    tie.close
+    (tie.spec
+    cast-result (λ c. omega (arith, zeros-below (c .args .value))) (λ c. width-of-zeros (c .args .value)))

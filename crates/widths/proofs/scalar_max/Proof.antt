@@ -1,11 +1,12 @@
 -- `widths::scalar_max` meets its contract. Assumes nothing.
 use borrow.Author.Needs.{needs}
+use native.Mathlib.Omega.{arith}
 use Rattle.widths.proofs.Laws.{shifted-pos, max-below, max-from}
 use Rattle.widths.proofs.scalar_max.Statement.{statement}
 use Rattle.widths.proofs.scalar_max.Tie as tie
 
 sub-result : tie.Need-sub-result
-sub-result c = shifted-pos (c .before .args .width) (c .if1 .left)
+sub-result c = omega (arith, shifted-pos (c .before .args .width) (c .if1 .left))
 
 returns : tie.Need-returns
 returns c = max-from (c .before .args .width) (c .if1 .taken)
