@@ -3,10 +3,11 @@ use borrow.Author.Needs.{needs}
 use native.Mathlib.Omega.{arith}
 use denote.Ref.{now}
 use borrow.Author.Tests.{eq-eqb, ne-eqb, lt-ltb, le-ltb}
-use Prim.Native.Nat.{_-_}
+use Prim.Native.Nat.{_-_, _%_}
 use mathlib.Core.Path.{_≡_, refl, sym, ap, _∙_}
 use mathlib.Core.Bool.{not}
 use native.Mathlib.Nat.{sub-zero}
+use lib.ListN.{length}
 use Rattle.rules.specs.Table.{decode}
 use Rattle.rules.specs.Places.{first}
 use Rattle.rules.specs.Layouts.{layout, unsoundAt}
@@ -27,14 +28,18 @@ abbrev μ-loop : tie.MeasureT-loop
 returns : tie.Need-returns Inv-loop μ-loop
 unfolding layout
 returns c =
-    let e : Uneven ≡ layout (now (c .before .before .args .t)) = rw (ne-eqb _ _ (c .if1 .taken)) in
+    let t = now (c .before .before .args .t) in
+    let e : Uneven ≡ layout t = rw (ne-eqb (length t % 40) 0 (λ z. c .if1 .taken (omega (arith, z)))) in
     (e, ap layoutNumbered e)
 
 returns-2 : tie.Need-returns-2 Inv-loop μ-loop
 unfolding layout
 returns-2 c =
     let n = c .before in
-    let e : TooLong ≡ layout (now (n .before .before .before .args .t)) = rw (eq-eqb _ _ (n .before .if1 .left), ← n .count .ensures, lt-ltb _ _ (c .if2 .taken)) in
+    let t = now (n .before .before .before .args .t) in
+    let even = eq-eqb (length t % 40) 0 (omega (arith, n .before .if1 .left)) in
+    let long = lt-ltb 1600 (n .count .result) (omega (arith, c .if2 .taken)) in
+    let e : TooLong ≡ layout t = rw (even, ← n .count .ensures, long) in
     (e, ap layoutNumbered e)
 
 loop-holds : tie.Need-loop-holds Inv-loop μ-loop
@@ -50,7 +55,11 @@ returns-3 c =
     let s = c .before in
     let l = s .before .before in
     let n = l .before .before in
-    let e : Malformed (l .loop .p) ≡ layout (now (n .before .before .before .args .t)) = rw (eq-eqb _ _ (n .before .if1 .left), ← n .count .ensures, le-ltb _ _ (l .before .if2 .left), ← up-hit _ _ _ (l .loop .p) (l .loop .inv .0) (s .before .loop-test .taken) (ap not (sym (s .sound-at .ensures)) ∙ c .if3 .taken) ∙ ap (first _ 0) (sub-zero _)) in
+    let t = now (n .before .before .before .args .t) in
+    let even = eq-eqb (length t % 40) 0 (omega (arith, n .before .if1 .left)) in
+    let fits = le-ltb 1600 (n .count .result) (omega (arith, l .before .if2 .left)) in
+    let unsound = ap not (sym (s .sound-at .ensures)) ∙ c .if3 .taken in
+    let e : Malformed (l .loop .p) ≡ layout t = rw (even, ← n .count .ensures, fits, ← up-hit _ _ _ (l .loop .p) (l .loop .inv .0) (s .before .loop-test .taken) unsound ∙ ap (first _ 0) (sub-zero _)) in
     (e, ap layoutNumbered e)
 
 loop-again : tie.Need-loop-again Inv-loop μ-loop
@@ -66,7 +75,10 @@ unfolding layout
 returns-4 c =
     let l = c .before in
     let n = l .before .before in
-    let e : Sound ≡ layout (now (n .before .before .before .args .t)) = rw (eq-eqb _ _ (n .before .if1 .left), ← n .count .ensures, le-ltb _ _ (l .before .if2 .left), ← up-end _ _ _ (l .loop .p) (l .loop .inv .0) (c .loop-test .left) ∙ ap (first _ 0) (sub-zero _)) in
+    let t = now (n .before .before .before .args .t) in
+    let even = eq-eqb (length t % 40) 0 (omega (arith, n .before .if1 .left)) in
+    let fits = le-ltb 1600 (n .count .result) (omega (arith, l .before .if2 .left)) in
+    let e : Sound ≡ layout t = rw (even, ← n .count .ensures, fits, ← up-end _ _ _ (l .loop .p) (l .loop .inv .0) (c .loop-test .left) ∙ ap (first _ 0) (sub-zero _)) in
     (e, ap layoutNumbered e)
 
 pub check-layout-spec : {M : Type 1} → statement M
