@@ -131,7 +131,7 @@ fn run_parents(t: &[u8], buffer: &mut [u8]) -> Tally
 }
 
 // All faults of a pass. Only pass 4 needs a bound on the table.
-pub fn run(pass: u8, t: &[u8], buffer: &mut [u8]) -> Tally
+fn run(pass: u8, t: &[u8], buffer: &mut [u8]) -> Tally
     requires { ⌜ (pass ≡ 4 → length (decode (now t)) ≤ 1600) ⌝ }
     ensures { λ r. ⌜ log r (now (buffer .exit)) ≡ logged (now (buffer .entry)) (passFaults pass (decode (now (t .entry)))) ⌝ }
 {
