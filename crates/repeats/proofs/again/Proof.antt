@@ -1,5 +1,7 @@
 -- `repeats::again` meets its contract. Assumes nothing.
 use borrow.Author.Needs.{needs}
+use mathlib.Core.Path.{ap, _∙_}
+use Rattle.rules.specs.Faults.{repeated}
 use Rattle.rules.specs.EnumDeclarations.{again}
 use Rattle.repeats.proofs.again.Statement.{statement}
 use Rattle.repeats.proofs.again.Tie as tie
@@ -8,7 +10,7 @@ returns : tie.Need-returns
 unfolding again
 returns c =
     let n = c .before in
-    rw (← n .nearest .ensures) (c .repeated .ensures)
+    c .repeated .ensures ∙ ap (repeated _ _ _) (n .nearest .ensures)
 
 pub again-spec : {M : Type 1} → statement M
 again-spec =
