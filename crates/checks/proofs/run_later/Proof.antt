@@ -1,5 +1,6 @@
 -- `checks::run_later` meets its contract: the passes below this one find nothing, and the buffer is as it was. Assumes nothing.
 use borrow.Author.Needs.{needs}
+use native.Mathlib.Omega.{arith}
 use denote.Ref.{now}
 use Prim.Native.Nat.{_-_, _≤_}
 use mathlib.Core.Path.{_≡_, refl, sym, ap, _∙_}
@@ -28,7 +29,8 @@ returns c =
     let l = r .before .before in
     let o = l .before in
     let s = o .before .before .before in
-    let z = faulty (decode (now (s .args .t))) _ (o .loop .pass) (o .loop .inv .2) _ _ (r .run .ensures) (c .if1 .taken) in rw (← up-hit _ 3 10 _ (o .loop .inv .1) (l .loop-test .taken) (z .0), ← o .loop .inv .0) (z .1)
+    let z = faulty (decode (now (s .args .t))) _ (o .loop .pass) (o .loop .inv .2) _ _ (r .run .ensures) (c .if1 .taken) in
+    rw (← up-hit _ 3 10 (o .loop .pass) (o .loop .inv .1) (omega (arith, l .loop-test .taken)) (z .0), ← o .loop .inv .0) (z .1)
 
 loop-again : tie.Need-loop-again Inv-loop μ-loop
 loop-again c =
@@ -36,13 +38,14 @@ loop-again c =
     let l = r .before .before in
     let o = l .before in
     let s = o .before .before .before in
-    let z = clean (decode (now (s .args .t))) _ (o .loop .pass) (o .loop .inv .2) _ _ (r .run .ensures) (search needs) in (z .0 ∙ o .loop .inv .0, up-miss _ 3 10 _ (o .loop .inv .1) (l .loop-test .taken) (z .1), search needs, search needs)
+    let z = clean (decode (now (s .args .t))) _ (o .loop .pass) (o .loop .inv .2) _ _ (r .run .ensures) (search needs) in
+    (z .0 ∙ o .loop .inv .0, up-miss _ 3 10 (o .loop .pass) (o .loop .inv .1) (omega (arith, l .loop-test .taken)) (z .1), search needs, search needs)
 
 returns-2 : tie.Need-returns-2 Inv-loop μ-loop
 unfolding later byLater
 returns-2 c =
     let l = c .before in
-    rw (← up-end _ 3 10 _ (l .loop .inv .1) (c .loop-test .left), l .loop .inv .0)
+    rw (← up-end _ 3 10 (l .loop .pass) (l .loop .inv .1) (omega (arith, c .loop-test .left)), l .loop .inv .0)
 
 pub run-later-spec : {M : Type 1} → statement M
 run-later-spec =
