@@ -24,7 +24,7 @@ use Rattle.rules.specs.declared.Found.the-variants.{At, Nothing}
 use Rattle.rules.specs.declared.Reply.the-variants.{Loose, Overlisted, NoRoom, Accepted}
 use Rattle.table.proofs.Laws.{each-more, each-few}
 use Rattle.flags.specs.Appended.{Appended, Room}
-use Rattle.flags.specs.Conditions.{Conditioned}
+use Rattle.flags.specs.Conditions.{Conditioned, Counted}
 use Rattle.flags.proofs.Writing.{appended-none, appended-then, appended-long, room-rest}
 
 left-suc : (n p : ℕ) → p < n → n - p ≡ suc (n - (p + 1))
@@ -246,6 +246,30 @@ at-few rs p = go (eqb (at rs p .kind) 11 || eqb (at rs p .kind) 12) refl (eqb (l
     go true k c z = omega (arith, ap length (desugared-gone rs p refl k))
     go false k true z = omega (arith, size-plain rs p refl refl k (eqb-true _ _ z), bound .0, bound .2)
     go false k false z = omega (arith, size-flag rs p refl refl k (eqb-false _ _ z), bound .0, bound .1)
+
+-- ---- counts
+
+pub counted-start : (rs : List Record) (counts : List ℕ) → 1600 ≤ length counts → Counted rs counts 0
+counted-start rs counts h = record { long = h; known = λ q l. absurd (omega arith) }
+
+module _ {rs : List Record} {counts : List ℕ} {p : ℕ} (m : Counted rs counts p) where
+  pub counted-one : {k a : ℕ} → p < 1600 → a ≡ membersStart rs p → k ≡ length (entriesOf rs (at rs p) a) → Counted rs (set counts p k) (p + 1)
+  counted-one {k} l f e = record { long = rw (length-set counts p k) (m .long); known = λ q h. go q h (decLt q p) }
+    where
+      inside : p < length counts
+      inside = let h = m .long in omega arith
+
+      go : (q : ℕ) → q < p + 1 → Dec (q < p) → getD (set counts p k) q 0 ≡ length (entriesOf rs (at rs q) (membersStart rs q))
+      go q h (yes b) = getD-set-other counts p q k 0 (omega arith) ∙ m .known q b
+      go q h (no b) = let d : q ≡ p = omega arith in rw (d, ← f) (getD-set-same counts p k 0 inside ∙ e)
+
+  pub counted-all : length rs ≡ p → Counted rs counts (length rs)
+  counted-all e = rw e m
+
+-- the count at p is that of the record read there
+pub counted-at : {rs : List Record} {counts : List ℕ} {n p a : ℕ} {r : Record} → Counted rs counts n → p < n → r ≡ at rs p → a ≡ membersStart rs p
+    → getD counts p 0 ≡ length (entriesOf rs r a)
+counted-at {rs} {counts} {n} {p} m l e f = m .known p l ∙ rw (e, f)
 
 -- ---- the whole table
 

@@ -12,7 +12,7 @@ ghost use Rattle.rules.specs.Table.{decode, encode, at};
 ghost use Rattle.rules.specs.DesugarFlags.{looseAt, firstLoose, membersStart, entryOf, isConditionOn, entriesFrom, entriesOf, flagOf, conditionAt, entriesAt, ownEntries, desugaredAt, desugared};
 ghost use Rattle.rules.specs.Replies.{answered, fitted, flagged};
 ghost use Rattle.flags.specs.Appended.{Appended, Room};
-ghost use Rattle.flags.specs.Conditions.{Conditioned};
+ghost use Rattle.flags.specs.Conditions.{Conditioned, Counted};
 
 // The place before q: 0 has none and stays.
 fn before(q: usize) -> usize
@@ -133,19 +133,20 @@ fn count_entries(t: &[u8], x: u16, a: usize) -> usize
     n
 }
 
-// How many entries are made for r, whose declaration's members start at a.
-fn count_made(t: &[u8], marks: &[u8], r: Record, a: usize) -> usize
+// How many entries are made for the record at p, whose declaration's members start at a.
+fn count_made(t: &[u8], marks: &[u8], p: usize, a: usize) -> usize
     requires { ⌜ Conditioned (decode (now t)) (now marks) (length (decode (now t))) ⌝ }
-    ensures { λ n. ⌜ n ≡ length (entriesOf (decode (now (t .entry))) r a) ⌝ }
+    ensures { λ n. ⌜ n ≡ length (entriesOf (decode (now (t .entry))) (at (decode (now (t .entry))) p) a) ⌝ }
 {
-    if !kinds::is_named_field(r.kind) {
+    if !kinds::is_named_field(table::kind(t, p)) {
         return 0;
     }
+    let x = table::name(t, p);
     // No condition of the table gives this name.
-    if marks[(r.name % 4093) as usize] == 0 {
+    if marks[(x % 4093) as usize] == 0 {
         return 0;
     }
-    count_entries(t, r.name, a)
+    count_entries(t, x, a)
 }
 
 // How many entries stand one after another from place a on.
@@ -172,16 +173,15 @@ fn count_condition(t: &[u8], p: usize) -> usize
     if walker::kind_after(t, p) == 11 { 1 } else { 0 }
 }
 
-// How many records the record at p becomes.
-fn size_at(t: &[u8], marks: &[u8], p: usize, a: usize) -> usize
-    requires { ⌜ (length (decode (now t)) ≤ 1600) × Conditioned (decode (now t)) (now marks) (length (decode (now t))) × (p < length (decode (now t))) × (a ≡ membersStart (decode (now t)) p) ⌝ }
+// How many records the record at p becomes, for which so many entries are made.
+fn size_at(t: &[u8], p: usize, made: usize) -> usize
+    requires { ⌜ (length (decode (now t)) ≤ 1600) × (p < length (decode (now t))) × (made ≡ length (entriesOf (decode (now t)) (at (decode (now t)) p) (membersStart (decode (now t)) p))) ⌝ }
     ensures { λ n. ⌜ n ≡ length (desugaredAt (decode (now (t .entry))) p) ⌝ }
 {
-    let r = table::at(t, p);
-    if (r.kind == 11) | (r.kind == 12) {
+    let kind = table::kind(t, p);
+    if (kind == 11) | (kind == 12) {
         return 0;
     }
-    let made = count_made(t, marks, r, a);
     let c = count_condition(t, p);
     if made == 0 {
         let own = count_own(t, p + 1 + c);
@@ -202,17 +202,19 @@ fn next_start(t: &[u8], p: usize, a: usize) -> usize
     }
 }
 
-// How many records the whole table becomes.
-fn size(t: &[u8], marks: &[u8]) -> usize
-    requires { ⌜ (length (decode (now t)) ≤ 1600) × Conditioned (decode (now t)) (now marks) (length (decode (now t))) ⌝ }
-    ensures { λ n. ⌜ n ≡ length (desugared (decode (now (t .entry)))) ⌝ }
+// How many records the whole table becomes. The numbers of entries are kept by place, so that writing need not count again.
+fn size(t: &[u8], marks: &[u8], counts: &mut [u16]) -> usize
+    requires { ⌜ (length (decode (now t)) ≤ 1600) × Conditioned (decode (now t)) (now marks) (length (decode (now t))) × (1600 ≤ length (now counts)) ⌝ }
+    ensures { λ n. ⌜ (n ≡ length (desugared (decode (now (t .entry))))) × Counted (decode (now (t .entry))) (now (counts .exit)) (length (decode (now (t .entry)))) ⌝ }
 {
     let end = table::count(t);
     let mut n = 0;
     let mut a = 0;
     let mut p = 0;
     while p < end {
-        n += size_at(t, marks, p, a);
+        let made = count_made(t, marks, p, a);
+        counts[p] = made as u16;
+        n += size_at(t, p, made);
         a = next_start(t, p, a);
         p += 1;
     }
@@ -300,23 +302,23 @@ fn write_flag(t: &[u8], p: usize, r: Record, a: usize, out: &mut [u8], c: usize)
 }
 
 // Writes what the record at p becomes.
-fn write_at(t: &[u8], marks: &[u8], p: usize, a: usize, out: &mut [u8], c: usize) -> usize
-    requires { ⌜ Conditioned (decode (now t)) (now marks) (length (decode (now t))) × (p < 1600) × (a ≡ membersStart (decode (now t)) p) × Room (now out) c (desugaredAt (decode (now t)) p) ⌝ }
+fn write_at(t: &[u8], counts: &[u16], p: usize, a: usize, out: &mut [u8], c: usize) -> usize
+    requires { ⌜ Counted (decode (now t)) (now counts) (length (decode (now t))) × (length (decode (now t)) ≤ 1600) × (p < length (decode (now t))) × (a ≡ membersStart (decode (now t)) p) × Room (now out) c (desugaredAt (decode (now t)) p) ⌝ }
     ensures { λ n. ⌜ Appended (now (out .entry)) c (desugaredAt (decode (now (t .entry))) p) (now (out .exit)) n ⌝ }
 {
     let r = table::at(t, p);
     if (r.kind == 11) | (r.kind == 12) {
         return c;
     }
-    if count_made(t, marks, r, a) == 0 {
+    if counts[p] == 0 {
         return write_plain(t, p, r, out, c);
     }
     write_flag(t, p, r, a, out, c)
 }
 
 // Writes the whole table.
-fn write_all(t: &[u8], marks: &[u8], out: &mut [u8])
-    requires { ⌜ (length (decode (now t)) ≤ 1600) × Conditioned (decode (now t)) (now marks) (length (decode (now t))) × Room (now out) 0 (desugared (decode (now t))) ⌝ }
+fn write_all(t: &[u8], counts: &[u16], out: &mut [u8])
+    requires { ⌜ (length (decode (now t)) ≤ 1600) × Counted (decode (now t)) (now counts) (length (decode (now t))) × Room (now out) 0 (desugared (decode (now t))) ⌝ }
     ensures { λ _. ⌜ now (out .exit) ≡ written (now (out .entry)) 0 (encode (desugared (decode (now (t .entry))))) ⌝ }
 {
     let end = table::count(t);
@@ -324,18 +326,17 @@ fn write_all(t: &[u8], marks: &[u8], out: &mut [u8])
     let mut a = 0;
     let mut p = 0;
     while p < end {
-        n = write_at(t, marks, p, a, out, n);
+        n = write_at(t, counts, p, a, out, n);
         a = next_start(t, p, a);
         p += 1;
     }
 }
 
-// The table with flags, if it is not too long for the reply or for the buffer.
-fn fit(t: &[u8], marks: &[u8], out: &mut [u8]) -> Reply
-    requires { ⌜ (length (decode (now t)) ≤ 1600) × Conditioned (decode (now t)) (now marks) (length (decode (now t))) ⌝ }
+// The table with flags, which has n records, if it is not too long for the reply or for the buffer.
+fn fit(t: &[u8], n: usize, counts: &[u16], out: &mut [u8]) -> Reply
+    requires { ⌜ (length (decode (now t)) ≤ 1600) × (n ≡ length (desugared (decode (now t)))) × Counted (decode (now t)) (now counts) (length (decode (now t))) ⌝ }
     ensures { λ r. ⌜ ((f : List ℕ) → answered r (now (out .exit)) f ≡ fitted (desugared (decode (now (t .entry)))) (now (out .entry)) f) ⌝ }
 {
-    let n = size(t, marks);
     if 1600 < n {
         return Reply::Overlisted;
     }
@@ -343,7 +344,7 @@ fn fit(t: &[u8], marks: &[u8], out: &mut [u8]) -> Reply
     if out.len() < needed {
         return Reply::NoRoom(needed);
     }
-    write_all(t, marks, out);
+    write_all(t, counts, out);
     Reply::Accepted(n)
 }
 
@@ -360,7 +361,9 @@ pub fn desugar_flags(t: &[u8], out: &mut [u8]) -> Reply
         Found::Nothing => {
             let mut marks = [0u8; 4093];
             mark_conditions(t, &mut marks);
-            fit(t, &marks, out)
+            let mut counts = [0u16; 1600];
+            let n = size(t, &marks, &mut counts);
+            fit(t, n, &counts, out)
         }
     }
 }

@@ -10,10 +10,10 @@ use Rattle.flags.proofs.write_all.Statement.{statement}
 use Rattle.flags.proofs.write_all.Tie as tie
 
 abbrev Inv-loop : tie.InvT-loop
-Inv-loop t marks out₀ end n₀ a₀ p₀ out n a p = Filled (decode t) out₀ out n a p × (p ≤ end) × (end ≡ length (decode t))
+Inv-loop t counts out₀ end n₀ a₀ p₀ out n a p = Filled (decode t) out₀ out n a p × (p ≤ end) × (end ≡ length (decode t))
 
 abbrev μ-loop : tie.MeasureT-loop
-μ-loop t marks out₀ end n₀ a₀ p₀ out n a p = end - p
+μ-loop t counts out₀ end n₀ a₀ p₀ out n a p = end - p
 
 loop-holds : tie.Need-loop-holds Inv-loop μ-loop
 loop-holds c = (filled-start _ _, search needs, c .count .ensures)
@@ -23,7 +23,7 @@ write-at-requires c κs =
     let t′ = c .before in
     let v = t′ .before .loop .inv in
     let s = c .before .before .before .before .before .before .before in
-    (s .pre .1, omega (arith, t′ .loop-test .taken, v .2, s .pre .0), v .0 .start, filled-room (v .0) (s .pre .2) (omega (arith, t′ .loop-test .taken, v .2)))
+    (s .pre .1, s .pre .0, omega (arith, t′ .loop-test .taken, v .2), v .0 .start, filled-room (v .0) (s .pre .2) (omega (arith, t′ .loop-test .taken, v .2)))
 
 next-start-requires : tie.Need-next-start-requires Inv-loop μ-loop
 next-start-requires c κs =

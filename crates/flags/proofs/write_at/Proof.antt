@@ -1,7 +1,8 @@
 -- `flags::write_at` meets its contract. Assumes nothing.
 use borrow.Author.Needs.{needs}
+use native.Mathlib.Omega.{arith}
 use mathlib.Core.Path.{sym, _∙_}
-use Rattle.flags.proofs.Laws.{desugared-gone, desugared-plain, desugared-flag}
+use Rattle.flags.proofs.Laws.{counted-at, desugared-gone, desugared-plain, desugared-flag}
 use Rattle.flags.proofs.Writing.{appended-none, appended-as, room-as}
 use Rattle.flags.proofs.write_at.Statement.{statement}
 use Rattle.flags.proofs.write_at.Tie as tie
@@ -9,47 +10,50 @@ use Rattle.flags.proofs.write_at.Tie as tie
 returns : tie.Need-returns
 returns c = appended-as (sym (desugared-gone _ _ (c .before .before .before .at .ensures) (c .if1 .taken))) (appended-none _ _)
 
+shared-slice-read-if2 : tie.Need-shared-slice-read-if2
+shared-slice-read-if2 c = let s = c .before .before .before .before .before .before .before .before in omega (arith, s .pre .0 .long, s .pre .1, s .pre .2)
+
 write-plain-requires : tie.Need-write-plain-requires
 write-plain-requires c κs =
     let g = c .before in
-    let m = g .before in
-    let f = m .before in
+    let f = g .before .before in
     let a = f .before .before .before in
     let s = a .before .before .before .before in
-    (s .pre .1, room-as (desugared-plain _ _ (a .at .ensures) (s .pre .2) (f .if1 .left) (sym (m .count-made .ensures) ∙ g .if2 .taken)) (s .pre .3))
+    let none = sym (counted-at (s .pre .0) (s .pre .2) (a .at .ensures) (s .pre .3)) ∙ g .if2 .taken in
+    (omega (arith, s .pre .1, s .pre .2), room-as (desugared-plain _ _ (a .at .ensures) (s .pre .3) (f .if1 .left) none) (s .pre .4))
 
 returns-2 : tie.Need-returns-2
 returns-2 c =
     let w = c .before .before in
     let g = w .before .before in
-    let m = g .before in
-    let f = m .before in
+    let f = g .before .before in
     let a = f .before .before .before in
     let s = a .before .before .before .before in
-    appended-as (sym (desugared-plain _ _ (a .at .ensures) (s .pre .2) (f .if1 .left) (sym (m .count-made .ensures) ∙ g .if2 .taken))) (w .write-plain .ensures)
+    let none = sym (counted-at (s .pre .0) (s .pre .2) (a .at .ensures) (s .pre .3)) ∙ g .if2 .taken in
+    appended-as (sym (desugared-plain _ _ (a .at .ensures) (s .pre .3) (f .if1 .left) none)) (w .write-plain .ensures)
 
 write-flag-requires : tie.Need-write-flag-requires
 write-flag-requires c κs =
     let g = c .before in
-    let m = g .before in
-    let f = m .before in
+    let f = g .before .before in
     let a = f .before .before .before in
     let s = a .before .before .before .before in
-    (s .pre .1, room-as (desugared-flag _ _ (a .at .ensures) (s .pre .2) (f .if1 .left) (λ z. g .if2 .left (m .count-made .ensures ∙ z))) (s .pre .3))
+    let made = counted-at (s .pre .0) (s .pre .2) (a .at .ensures) (s .pre .3) in
+    (omega (arith, s .pre .1, s .pre .2), room-as (desugared-flag _ _ (a .at .ensures) (s .pre .3) (f .if1 .left) (λ z. g .if2 .left (made ∙ z))) (s .pre .4))
 
 returns-3 : tie.Need-returns-3
 returns-3 c =
     let w = c .before .before in
     let g = w .before .before in
-    let m = g .before in
-    let f = m .before in
+    let f = g .before .before in
     let a = f .before .before .before in
     let s = a .before .before .before .before in
-    appended-as (sym (desugared-flag _ _ (a .at .ensures) (s .pre .2) (f .if1 .left) (λ z. g .if2 .left (m .count-made .ensures ∙ z)))) (w .write-flag .ensures)
+    let made = counted-at (s .pre .0) (s .pre .2) (a .at .ensures) (s .pre .3) in
+    appended-as (sym (desugared-flag _ _ (a .at .ensures) (s .pre .3) (f .if1 .left) (λ z. g .if2 .left (made ∙ z)))) (w .write-flag .ensures)
 
 pub write-at-spec : {M : Type 1} → statement M
 write-at-spec =
     tie.close
     (tie.spec
-    (λ c κs. search needs) returns (λ c κs. search needs) write-plain-requires (λ c. search needs) returns-2
+    (λ c κs. search needs) returns (λ c. search needs) shared-slice-read-if2 write-plain-requires (λ c. search needs) returns-2
     write-flag-requires (λ c. search needs) returns-3)
