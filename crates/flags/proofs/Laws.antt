@@ -24,7 +24,7 @@ use Rattle.rules.specs.declared.Found.the-variants.{At, Nothing}
 use Rattle.rules.specs.declared.Reply.the-variants.{Loose, Overlisted, NoRoom, Accepted}
 use Rattle.table.proofs.Laws.{each-more, each-few}
 use Rattle.flags.specs.Appended.{Appended, Room}
-use Rattle.flags.specs.Conditions.{Conditioned, Counted}
+use Rattle.flags.specs.Conditions.{Stamped, Counted}
 use Rattle.flags.proofs.Writing.{appended-none, appended-then, appended-long, room-rest}
 
 left-suc : (n p : ℕ) → p < n → n - p ≡ suc (n - (p + 1))
@@ -120,52 +120,45 @@ own-place rs p c n r e = let z : p + 1 + length (conditionAt rs (p + 1)) ≡ p +
 
 -- ---- marks
 
-pub conditioned-start : (rs : List Record) (marks : List ℕ) → 4093 ≤ length marks → Conditioned rs marks 0
-conditioned-start rs marks h = record { long = h; known = λ q l i. absurd (omega arith) }
+miss-by : (b : Bool) {c : Bool} → c ≡ false → (b && c) ≡ false
+miss-by true e = e
+miss-by false e = refl
 
-module _ {rs : List Record} {marks : List ℕ} {p : ℕ} (m : Conditioned rs marks p) where
-  pub conditioned-other : ¬ (at rs p .kind ≡ 11) → Conditioned rs marks (p + 1)
-  conditioned-other k = record { long = m .long; known = λ q l i. go q l i (decLt q p) }
-    where
-      go : (q : ℕ) → q < p + 1 → is kind.condition (at rs q) ≡ true → Dec (q < p) → getD marks (at rs q .name % 4093) 0 ≡ 1
-      go q l i (yes h) = m .known q h i
-      go q l i (no h) = let e : q ≡ p = omega arith in absurd (k (eqb-true _ _ (rw e at i)))
+-- the conditions from a to p left their stamp: a name without it has no entries but those from p on
+pub record Stamping (rs : List Record) (marks : List ℕ) (a p : ℕ) : Type 0 where
+  pub long : 4093 ≤ length marks
+  pub left : (x : ℕ) → ¬ (getD marks (x % 4093) 0 ≡ a) → entriesFrom rs x p ≡ entriesFrom rs x a
 
-  pub conditioned-one : {x : ℕ} → x ≡ at rs p .name → Conditioned rs (set marks (x % 4093) 1) (p + 1)
-  conditioned-one {x} e = record { long = rw (length-set marks (x % 4093) 1) (m .long); known = λ q l i. go q l i (eqb (at rs q .name % 4093) (x % 4093)) refl }
-    where
-      inside : x % 4093 < length marks
-      inside = let l = m .long in omega arith
+pub stamping-start : (rs : List Record) (marks : List ℕ) (a : ℕ) → 4093 ≤ length marks → Stamping rs marks a a
+stamping-start rs marks a h = record { long = h; left = λ x o. refl }
 
-      go : (q : ℕ) → q < p + 1 → is kind.condition (at rs q) ≡ true → (b : Bool) → eqb (at rs q .name % 4093) (x % 4093) ≡ b → getD (set marks (x % 4093) 1) (at rs q .name % 4093) 0 ≡ 1
-      go q l i true s = rw (eqb-true (at rs q .name % 4093) (x % 4093) s) (getD-set-same marks (x % 4093) 1 0 inside)
-      go q l i false s = getD-set-other marks (x % 4093) (at rs q .name % 4093) 1 0 (eqb-false _ _ s) ∙ m .known q (below (decLt q p)) i
-        where
-          below : Dec (q < p) → q < p
-          below (yes h) = h
-          below (no h) = let d : q ≡ p = omega arith in absurd (eqb-false _ _ s (ap (λ (n : ℕ). n % 4093) (ap (λ (k : ℕ). at rs k .name) d ∙ sym e)))
+module _ {rs : List Record} {marks : List ℕ} {a p : ℕ} (m : Stamping rs marks a p) where
+  pub stamping-decl : p < length rs → isDecl (at rs p .kind) ≡ true → Stamped rs marks a
+  stamping-decl l i = record { long = m .long; clear = λ x o. sym (entries-decl rs x p l i) ∙ m .left x o }
 
-pub conditioned-all : {rs : List Record} {marks : List ℕ} {p : ℕ} → Conditioned rs marks p → length rs ≡ p → Conditioned rs marks (length rs)
-conditioned-all m e = rw e m
+  pub stamping-end : length rs ≤ p → Stamped rs marks a
+  stamping-end l = record { long = m .long; clear = λ x o. sym (entries-end rs x p l) ∙ m .left x o }
 
-no-one : {A : Type 0} {n : ℕ} → n ≡ 0 → n ≡ 1 → A
-no-one z o = absurd (omega arith)
+  module _ (l : p < length rs) (i : isDecl (at rs p .kind) ≡ false) where
+    pub stamping-other : ¬ (at rs p .kind ≡ 11) → Stamping rs marks a (p + 1)
+    stamping-other k = record { long = m .long; left = λ x o. sym (entries-miss rs x p l i (rw (ne-eqb _ _ k))) ∙ m .left x o }
 
--- a name without a mark has no entries
-module _ {rs : List Record} {marks : List ℕ} (m : Conditioned rs marks (length rs)) (x : ℕ) (z : getD marks (x % 4093) 0 ≡ 0) where
-  unmarked-among : (n q : ℕ) → n ≤ length rs - q → [] ≡ entries rs x q n
-  unfolding entries
-  unmarked-among zero q l = refl
-  unmarked-among (suc n) q l = go (unmarked-among n (q + 1) (omega arith)) (isDecl (at rs q .kind)) refl (is kind.condition (at rs q)) refl (eqb (at rs q .name) x) refl
-    where
-      go : [] ≡ entries rs x (q + 1) n → (d : Bool) → isDecl (at rs q .kind) ≡ d → (b : Bool) → is kind.condition (at rs q) ≡ b → (c : Bool) → eqb (at rs q .name) x ≡ c → [] ≡ entries rs x q (suc n)
-      go r true d b i c e = rw (entries, d)
-      go r false d true i true e = no-one z (rw (eqb-true (at rs q .name) x e) at (m .known q (omega arith) i))
-      go r false d true i false e = rw (entries, d, i, e) r
-      go r false d false i c e = rw (entries, d, i) r
+    pub stamping-one : {y : ℕ} → y ≡ at rs p .name → Stamping rs (set marks (y % 4093) a) a (p + 1)
+    stamping-one {y} e = record { long = rw (length-set marks (y % 4093) a) (m .long); left = λ x o. go x o (eqb (x % 4093) (y % 4093)) refl }
+      where
+        inside : y % 4093 < length marks
+        inside = let h = m .long in omega arith
 
-  pub unmarked : (a : ℕ) → [] ≡ entriesFrom rs x a
-  unmarked a = unmarked-among (length rs - a) a (omega arith)
+        -- a name of another remainder is another name
+        miss : (x : ℕ) → ¬ (x % 4093 ≡ y % 4093) → isConditionOn rs x p ≡ false
+        miss x d = miss-by (is kind.condition (at rs p)) (ne-eqb (at rs p .name) x (λ z. d (ap (λ (n : ℕ). n % 4093) (sym (e ∙ z)))))
+
+        go : (x : ℕ) → ¬ (getD (set marks (y % 4093) a) (x % 4093) 0 ≡ a) → (b : Bool) → eqb (x % 4093) (y % 4093) ≡ b
+            → entriesFrom rs x (p + 1) ≡ entriesFrom rs x a
+        go x o true s = absurd (o (rw (eqb-true (x % 4093) (y % 4093) s) (getD-set-same marks (y % 4093) a 0 inside)))
+        go x o false s =
+            let d = eqb-false (x % 4093) (y % 4093) s in
+            sym (entries-miss rs x p l i (miss x d)) ∙ m .left x (λ z. o (getD-set-other marks (y % 4093) (x % 4093) a 0 d ∙ z))
 
 -- ---- one place
 
@@ -267,9 +260,15 @@ module _ {rs : List Record} {counts : List ℕ} {p : ℕ} (m : Counted rs counts
   counted-all e = rw e m
 
 -- the count at p is that of the record read there
-pub counted-at : {rs : List Record} {counts : List ℕ} {n p a : ℕ} {r : Record} → Counted rs counts n → p < n → r ≡ at rs p → a ≡ membersStart rs p
-    → getD counts p 0 ≡ length (entriesOf rs r a)
-counted-at {rs} {counts} {n} {p} m l e f = m .known p l ∙ rw (e, f)
+module _ {rs : List Record} {counts : List ℕ} {n p a : ℕ} {r : Record} (m : Counted rs counts n) (l : p < n) (e : r ≡ at rs p) (f : a ≡ membersStart rs p) where
+  counted-at : getD counts p 0 ≡ length (entriesOf rs r a)
+  counted-at = m .known p l ∙ rw (e, f)
+
+  pub counted-none : getD counts p 0 ≡ 0 → length (entriesOf rs r a) ≡ 0
+  counted-none z = sym counted-at ∙ z
+
+  pub counted-some : ¬ (getD counts p 0 ≡ 0) → ¬ (length (entriesOf rs r a) ≡ 0)
+  counted-some o z = o (counted-at ∙ z)
 
 -- ---- the whole table
 
@@ -280,6 +279,18 @@ start-decl rs p i = sym (rw (add-one p, membersStart, i))
 pub start-other : (rs : List Record) (p : ℕ) {a : ℕ} → a ≡ membersStart rs p → isDecl (at rs p .kind) ≡ false → a ≡ membersStart rs (p + 1)
 unfolding membersStart
 start-other rs p e i = e ∙ sym (rw (add-one p, membersStart, i))
+
+start-few : (rs : List Record) (p : ℕ) → membersStart rs p ≤ p
+unfolding membersStart
+start-few rs zero = omega arith
+start-few rs (suc p) = go (start-few rs p) (isDecl (at rs p .kind)) refl
+  where
+    go : membersStart rs p ≤ p → (b : Bool) → isDecl (at rs p .kind) ≡ b → membersStart rs (suc p) ≤ suc p
+    go h true i = rw (membersStart, i) (omega arith)
+    go h false i = rw (membersStart, i) (omega arith)
+
+pub start-bound : (rs : List Record) (p : ℕ) {a : ℕ} → a ≡ membersStart rs p → p ≤ 1600 → a ≤ 1600
+start-bound rs p e h = let z = start-few rs p in omega arith
 
 -- how many records the places below p become
 abbrev pub sizeBelow : List Record → ℕ → ℕ

@@ -12,7 +12,7 @@ ghost use Rattle.rules.specs.Table.{decode, encode, at};
 ghost use Rattle.rules.specs.DesugarFlags.{looseAt, firstLoose, membersStart, entryOf, isConditionOn, entriesFrom, entriesOf, flagOf, conditionAt, entriesAt, ownEntries, desugaredAt, desugared};
 ghost use Rattle.rules.specs.Replies.{answered, fitted, flagged};
 ghost use Rattle.flags.specs.Appended.{Appended, Room};
-ghost use Rattle.flags.specs.Conditions.{Conditioned, Counted};
+ghost use Rattle.flags.specs.Conditions.{Stamped, Counted};
 
 // The place before q: 0 has none and stays.
 fn before(q: usize) -> usize
@@ -48,20 +48,24 @@ fn find_loose(t: &[u8]) -> Found
     Found::Nothing
 }
 
-// Marks the names that conditions give, by their remainders.
-fn mark_conditions(t: &[u8], marks: &mut [u8])
-    requires { ⌜ 4093 ≤ length (now marks) ⌝ }
-    ensures { λ _. ⌜ Conditioned (decode (now (t .entry))) (now (marks .exit)) (length (decode (now (t .entry)))) ⌝ }
+// Stamps with a, as no other declaration does, the remainders of the names that conditions give, from place a to its end.
+fn mark_conditions(t: &[u8], a: usize, marks: &mut [u16])
+    requires { ⌜ (a ≤ 1600) × (4093 ≤ length (now marks)) ⌝ }
+    ensures { λ _. ⌜ Stamped (decode (now (t .entry))) (now (marks .exit)) a ⌝ }
 {
     let end = table::count(t);
-    let mut p = 0;
+    let mut p = a;
     while p < end {
         let q = p;
         p = q + 1;
-        if table::kind(t, q) == 11 {
+        let kind = table::kind(t, q);
+        if kinds::is_decl(kind) {
+            return;
+        }
+        if kind == 11 {
             // The divisor is prime: names that are multiples of a power of two differ in their remainders.
             let h = (table::name(t, q) % 4093) as usize;
-            marks[h] = 1;
+            marks[h] = a as u16;
         }
     }
 }
@@ -134,16 +138,16 @@ fn count_entries(t: &[u8], x: u16, a: usize) -> usize
 }
 
 // How many entries are made for the record at p, whose declaration's members start at a.
-fn count_made(t: &[u8], marks: &[u8], p: usize, a: usize) -> usize
-    requires { ⌜ Conditioned (decode (now t)) (now marks) (length (decode (now t))) ⌝ }
+fn count_made(t: &[u8], marks: &[u16], p: usize, a: usize) -> usize
+    requires { ⌜ (a ≤ 1600) × Stamped (decode (now t)) (now marks) a ⌝ }
     ensures { λ n. ⌜ n ≡ length (entriesOf (decode (now (t .entry))) (at (decode (now (t .entry))) p) a) ⌝ }
 {
     if !kinds::is_named_field(table::kind(t, p)) {
         return 0;
     }
     let x = table::name(t, p);
-    // No condition of the table gives this name.
-    if marks[(x % 4093) as usize] == 0 {
+    // No condition of the declaration gives this name.
+    if marks[(x % 4093) as usize] != a as u16 {
         return 0;
     }
     count_entries(t, x, a)
@@ -202,20 +206,34 @@ fn next_start(t: &[u8], p: usize, a: usize) -> usize
     }
 }
 
+// The same; if a declaration stands at p, its conditions are marked.
+fn mark_next(t: &[u8], p: usize, a: usize, marks: &mut [u16]) -> usize
+    requires { ⌜ (p < 1600) × (a ≡ membersStart (decode (now t)) p) × Stamped (decode (now t)) (now marks) a ⌝ }
+    ensures { λ r. ⌜ (r ≡ membersStart (decode (now (t .entry))) (p + 1)) × Stamped (decode (now (t .entry))) (now (marks .exit)) r ⌝ }
+{
+    let next = next_start(t, p, a);
+    if next == a {
+        return a;
+    }
+    mark_conditions(t, next, marks);
+    next
+}
+
 // How many records the whole table becomes. The numbers of entries are kept by place, so that writing need not count again.
-fn size(t: &[u8], marks: &[u8], counts: &mut [u16]) -> usize
-    requires { ⌜ (length (decode (now t)) ≤ 1600) × Conditioned (decode (now t)) (now marks) (length (decode (now t))) × (1600 ≤ length (now counts)) ⌝ }
+fn size(t: &[u8], marks: &mut [u16], counts: &mut [u16]) -> usize
+    requires { ⌜ (length (decode (now t)) ≤ 1600) × (4093 ≤ length (now marks)) × (1600 ≤ length (now counts)) ⌝ }
     ensures { λ n. ⌜ (n ≡ length (desugared (decode (now (t .entry))))) × Counted (decode (now (t .entry))) (now (counts .exit)) (length (decode (now (t .entry)))) ⌝ }
 {
     let end = table::count(t);
     let mut n = 0;
     let mut a = 0;
     let mut p = 0;
+    mark_conditions(t, 0, marks);
     while p < end {
         let made = count_made(t, marks, p, a);
         counts[p] = made as u16;
         n += size_at(t, p, made);
-        a = next_start(t, p, a);
+        a = mark_next(t, p, a, marks);
         p += 1;
     }
     n
@@ -359,10 +377,9 @@ pub fn desugar_flags(t: &[u8], out: &mut [u8]) -> Reply
             Reply::Loose(FieldKey(field.key))
         }
         Found::Nothing => {
-            let mut marks = [0u8; 4093];
-            mark_conditions(t, &mut marks);
+            let mut marks = [0u16; 4093];
             let mut counts = [0u16; 1600];
-            let n = size(t, &marks, &mut counts);
+            let n = size(t, &mut marks, &mut counts);
             fit(t, n, &counts, out)
         }
     }

@@ -8,7 +8,7 @@ use mathlib.Core.Bool.{true}
 use lib.ListN.{length}
 use Rattle.rules.specs.Kinds.{isNamedField}
 use Rattle.rules.specs.Table.{decode, at}
-use Rattle.flags.proofs.Laws.{of-named, of-other, unmarked}
+use Rattle.flags.proofs.Laws.{of-named, of-other}
 use Rattle.flags.proofs.count_made.Statement.{statement}
 use Rattle.flags.proofs.count_made.Tie as tie
 
@@ -21,7 +21,7 @@ returns c =
     ap length (of-other rs (at rs (s .args .p)) (s .args .a) (rw (← k .kind .ensures) (sym (i .is-named-field .ensures) ∙ not-true _ (c .if1 .taken))))
 
 shared-slice-read-if2 : tie.Need-shared-slice-read-if2
-shared-slice-read-if2 c = omega (arith, c .before .before .before .before .before .before .before .pre .long)
+shared-slice-read-if2 c = omega (arith, c .before .before .before .before .before .before .before .pre .1 .long)
 
 returns-2 : tie.Need-returns-2
 returns-2 c =
@@ -32,7 +32,7 @@ returns-2 c =
     let s = k .before .before .before in
     let rs = decode (now (s .args .t)) in
     let named : isNamedField (at rs (s .args .p) .kind) ≡ true = rw (← k .kind .ensures) (sym (i .is-named-field .ensures) ∙ not-false _ (g .if1 .left)) in
-    ap length (unmarked (s .pre) (at rs (s .args .p) .name) (rw (← n .name .ensures) (c .if2 .taken)) (s .args .a) ∙ of-named rs (at rs (s .args .p)) (s .args .a) named)
+    ap length (s .pre .1 .clear (at rs (s .args .p) .name) (rw (← n .name .ensures) (c .if2 .taken)) ∙ of-named rs (at rs (s .args .p)) (s .args .a) named)
 
 returns-3 : tie.Need-returns-3
 returns-3 c =
@@ -49,5 +49,5 @@ pub count-made-spec : {M : Type 1} → statement M
 count-made-spec =
     tie.close
     (tie.spec
-    (λ c κs. search needs) (λ c κs. search needs) returns (λ c κs. search needs) (λ c. search needs) shared-slice-read-if2
-    returns-2 (λ c κs. search needs) returns-3)
+    (λ c κs. search needs) (λ c κs. search needs) returns (λ c κs. search needs) (λ c. search needs) (λ c. search needs)
+    shared-slice-read-if2 (λ c. search needs) returns-2 (λ c κs. search needs) returns-3)

@@ -6,10 +6,12 @@ use Rattle.flags.proofs.desugar_flags.Statement.{statement}
 use Rattle.flags.proofs.desugar_flags.Tie as tie
 
 size-requires : tie.Need-size-requires
-size-requires c κs = (c .before .before .before .before .before .before .before .before .before .before .pre, c .before .before .before .mark-conditions .ensures, search needs)
+size-requires c κs = (c .before .before .before .before .before .before .before .pre, search needs, search needs)
 
 fit-requires : tie.Need-fit-requires
-fit-requires c κs = let n = c .before .before .before in (c .before .before .before .before .before .before .before .before .before .before .before .before .before .before .pre, n .size .ensures .0, n .size .ensures .1)
+fit-requires c κs =
+    let n = c .before .before .before .before in
+    (n .before .before .before .before .before .before .before .before .pre, n .size .ensures .0, n .size .ensures .1)
 
 returns : tie.Need-returns
 returns c =
@@ -19,7 +21,7 @@ returns c =
 
 returns-2 : tie.Need-returns-2
 returns-2 c =
-    let e = c .before .before .before .before .before .before .before .before .before .before .before .before in
+    let e = c .before .before .before .before .before .before .before .before .before .before in
     λ f. c .before .before .fit .ensures f ∙ reply-fitted _ _ (e .before .before .find-loose .ensures) (e .enum-told .given .1) f
 
 pub desugar-flags-spec : {M : Type 1} → statement M
@@ -27,5 +29,4 @@ desugar-flags-spec =
     tie.close
     (tie.spec
     (λ c κs. search needs) (λ c. search needs) (λ c κs. search needs) (λ c κs. search needs) (λ c. search needs)
-    (λ c. search needs) (λ c κs. search needs) (λ c. search needs) (λ c. search needs) size-requires (λ c. search needs)
-    fit-requires returns (λ c. search needs) returns-2)
+    (λ c. search needs) (λ c. search needs) size-requires (λ c. search needs) fit-requires returns (λ c. search needs) returns-2)

@@ -20,7 +20,8 @@ returns-3 : tie.Need-returns-3
 returns-3 c =
     let w = c .before .before in
     let g = w .before .before in
-    reply-accepted _ _ (c .before .before .before .before .before .before .before .before .before .pre .1) (g .before .if1 .left) (g .if2 .left) (w .write-all .ensures)
+    let s = g .before .before .before .before .before in
+    reply-accepted _ _ (s .pre .1) (g .before .if1 .left) (g .if2 .left) (w .write-all .ensures)
 
 pub fit-spec : {M : Type 1} → statement M
 fit-spec =

@@ -38,7 +38,8 @@ returns-2 c =
     let k = g .before in
     let f = k .before in
     let s = f .before .before .before in
-    rw (c .count-own .ensures, k .count-condition .ensures) (size-plain (decode (now (s .args .t))) (s .args .p) refl refl (rw (f .before .kind .ensures) at (f .if1 .left)) (sym (s .pre .2) ∙ g .if2 .taken))
+    let kept = rw (f .before .kind .ensures) at (f .if1 .left) in
+    rw (c .count-own .ensures, k .count-condition .ensures) (size-plain (decode (now (s .args .t))) (s .args .p) refl refl kept (sym (s .pre .2) ∙ g .if2 .taken))
 
 add-result-3 : tie.Need-add-result-3
 add-result-3 c =
@@ -58,7 +59,9 @@ returns-3 c =
     let k = c .before in
     let f = k .before in
     let s = f .before .before .before in
-    omega (arith, s .pre .2, k .count-condition .ensures, size-flag (decode (now (s .args .t))) (s .args .p) refl refl (rw (f .before .kind .ensures) at (f .if1 .left)) (λ z. c .if2 .left (s .pre .2 ∙ z)))
+    let kept = rw (f .before .kind .ensures) at (f .if1 .left) in
+    let some = size-flag (decode (now (s .args .t))) (s .args .p) refl refl kept (λ z. c .if2 .left (s .pre .2 ∙ z)) in
+    omega (arith, s .pre .2, k .count-condition .ensures, some)
 
 pub size-at-spec : {M : Type 1} → statement M
 size-at-spec =

@@ -1,8 +1,8 @@
 -- `flags::write_at` meets its contract. Assumes nothing.
 use borrow.Author.Needs.{needs}
 use native.Mathlib.Omega.{arith}
-use mathlib.Core.Path.{sym, _∙_}
-use Rattle.flags.proofs.Laws.{counted-at, desugared-gone, desugared-plain, desugared-flag}
+use mathlib.Core.Path.{sym}
+use Rattle.flags.proofs.Laws.{counted-none, counted-some, desugared-gone, desugared-plain, desugared-flag}
 use Rattle.flags.proofs.Writing.{appended-none, appended-as, room-as}
 use Rattle.flags.proofs.write_at.Statement.{statement}
 use Rattle.flags.proofs.write_at.Tie as tie
@@ -19,7 +19,7 @@ write-plain-requires c κs =
     let f = g .before .before in
     let a = f .before .before .before in
     let s = a .before .before .before .before in
-    let none = sym (counted-at (s .pre .0) (s .pre .2) (a .at .ensures) (s .pre .3)) ∙ g .if2 .taken in
+    let none = counted-none (s .pre .0) (s .pre .2) (a .at .ensures) (s .pre .3) (g .if2 .taken) in
     (omega (arith, s .pre .1, s .pre .2), room-as (desugared-plain _ _ (a .at .ensures) (s .pre .3) (f .if1 .left) none) (s .pre .4))
 
 returns-2 : tie.Need-returns-2
@@ -29,7 +29,7 @@ returns-2 c =
     let f = g .before .before in
     let a = f .before .before .before in
     let s = a .before .before .before .before in
-    let none = sym (counted-at (s .pre .0) (s .pre .2) (a .at .ensures) (s .pre .3)) ∙ g .if2 .taken in
+    let none = counted-none (s .pre .0) (s .pre .2) (a .at .ensures) (s .pre .3) (g .if2 .taken) in
     appended-as (sym (desugared-plain _ _ (a .at .ensures) (s .pre .3) (f .if1 .left) none)) (w .write-plain .ensures)
 
 write-flag-requires : tie.Need-write-flag-requires
@@ -38,8 +38,8 @@ write-flag-requires c κs =
     let f = g .before .before in
     let a = f .before .before .before in
     let s = a .before .before .before .before in
-    let made = counted-at (s .pre .0) (s .pre .2) (a .at .ensures) (s .pre .3) in
-    (omega (arith, s .pre .1, s .pre .2), room-as (desugared-flag _ _ (a .at .ensures) (s .pre .3) (f .if1 .left) (λ z. g .if2 .left (made ∙ z))) (s .pre .4))
+    let some = counted-some (s .pre .0) (s .pre .2) (a .at .ensures) (s .pre .3) (g .if2 .left) in
+    (omega (arith, s .pre .1, s .pre .2), room-as (desugared-flag _ _ (a .at .ensures) (s .pre .3) (f .if1 .left) some) (s .pre .4))
 
 returns-3 : tie.Need-returns-3
 returns-3 c =
@@ -48,8 +48,8 @@ returns-3 c =
     let f = g .before .before in
     let a = f .before .before .before in
     let s = a .before .before .before .before in
-    let made = counted-at (s .pre .0) (s .pre .2) (a .at .ensures) (s .pre .3) in
-    appended-as (sym (desugared-flag _ _ (a .at .ensures) (s .pre .3) (f .if1 .left) (λ z. g .if2 .left (made ∙ z)))) (w .write-flag .ensures)
+    let some = counted-some (s .pre .0) (s .pre .2) (a .at .ensures) (s .pre .3) (g .if2 .left) in
+    appended-as (sym (desugared-flag _ _ (a .at .ensures) (s .pre .3) (f .if1 .left) some)) (w .write-flag .ensures)
 
 pub write-at-spec : {M : Type 1} → statement M
 write-at-spec =
