@@ -55,11 +55,7 @@ pass-faults k rs =
     (each-if (eqb k 8) (pass8At rs) _ n
     (each-if (eqb k 9) (pass9At rs) _ n (each-none n))))))))
 
--- pass 1 and the later passes are those of the rules
-pub pass-one : (rs : List Record) → passFaults 1 rs ≡ pass1 rs
-unfolding passFaults
-pass-one rs = refl
-
+-- the later passes are those of the rules
 pub pass-later : (k : ℕ) (rs : List Record) → 3 ≤ k → passFaults k rs ≡ laterFaults k rs
 unfolding passFaults
 pass-later k rs h = rw (ne-eqb k 1 (λ z. omega arith))

@@ -12,16 +12,8 @@ use Rattle.rules.specs.InlineGroups.{kept, fixedScalar, fixedEnum, lookup, unde
 use Rattle.rules.specs.declared.Record.{Record}
 use Rattle.rules.specs.declared.Found.{Found}
 use Rattle.rules.specs.declared.Found.the-variants.{At, Nothing}
+use Rattle.table.proofs.Laws.{left-suc, left-none}
 use Rattle.constraints.specs.Constraints.{constraintsFrom}
-
--- ---- numbers
-
--- one step of a count of what is left
-pub left-suc : (n p : ℕ) → p < n → n - p ≡ suc (n - (p + 1))
-left-suc n p h = omega arith
-
-pub left-none : (n p : ℕ) → n ≤ p → n - p ≡ zero
-left-none n p h = omega arith
 
 -- ---- the constraints of a field
 

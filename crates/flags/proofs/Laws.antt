@@ -22,16 +22,10 @@ use Rattle.rules.specs.declared.Record.{Record}
 use Rattle.rules.specs.declared.Found.{Found}
 use Rattle.rules.specs.declared.Found.the-variants.{At, Nothing}
 use Rattle.rules.specs.declared.Reply.the-variants.{Loose, Overlisted, NoRoom, Accepted}
-use Rattle.table.proofs.Laws.{each-more, each-few}
+use Rattle.table.proofs.Laws.{left-suc, left-none, each-more, each-few}
 use Rattle.flags.specs.Appended.{Appended, Room}
 use Rattle.flags.specs.Conditions.{Stamped, Counted}
 use Rattle.flags.proofs.Writing.{appended-none, appended-then, appended-long, room-rest}
-
-left-suc : (n p : ℕ) → p < n → n - p ≡ suc (n - (p + 1))
-left-suc n p h = omega arith
-
-left-none : (n p : ℕ) → n ≤ p → n - p ≡ zero
-left-none n p h = omega arith
 
 -- ---- entries
 

@@ -19,7 +19,7 @@ use Rattle.rules.specs.declared.Found.{Found}
 use Rattle.rules.specs.declared.Found.the-variants.{At}
 use Rattle.rules.specs.declared.Target.the-variants.{Decl}
 use Rattle.table.proofs.Searches.{and-true}
-use Rattle.constraints.proofs.Laws.{left-suc, left-none}
+use Rattle.table.proofs.Laws.{left-suc, left-none}
 use Rattle.group_sizes.specs.Sizes.{sizeAt, fieldsSize, sizeFrom}
 
 decl-below : (k : ℕ) → isDecl k ≡ true → k ≤ 7

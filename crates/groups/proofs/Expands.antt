@@ -23,8 +23,8 @@ use Rattle.order.specs.GroupsFirst.{GroupsFirst}
 use Rattle.groups.specs.declared.Progress.{Progress}
 use Rattle.group_sizes.specs.Sizes.{Resolved, sizeAt, fieldsSize, sizeFrom, Sized}
 use Rattle.groups.specs.Outputs.{Output, output, added, addedAll, Ready, Expanded}
-use Rattle.table.proofs.Searches.{false-true, at-inj}
-use Rattle.constraints.proofs.Laws.{left-suc, left-none}
+use Rattle.table.proofs.Laws.{at-inj, left-suc, left-none}
+use Rattle.table.proofs.Searches.{false-true}
 use Rattle.group_sizes.proofs.Resolves.{named-in, named-declares, group-before}
 use Rattle.group_sizes.proofs.Fields.{here-start, here-next, after-start, after-next, size-next, size-end, Ends}
 

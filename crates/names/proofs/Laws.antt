@@ -17,12 +17,8 @@ use Rattle.rules.specs.declared.Record.{Record}
 use Rattle.rules.specs.declared.Found.the-variants.{Nothing}
 use Rattle.rules.specs.declared.Target.the-variants.{DeclNamed}
 use Rattle.table.proofs.Laws.{up-miss, up-end}
-use Rattle.table.proofs.Searches.{none-below}
+use Rattle.table.proofs.Searches.{and-false, none-below}
 use Rattle.names.specs.Starts.{StartsFrom, Starts}
-
-and-false : (b : Bool) → (b && false) ≡ false
-and-false true = refl
-and-false false = refl
 
 module _ (rs : List Record) where
   past : (x p : ℕ) → length rs ≤ p → firstFrom rs (DeclNamed x) p ≡ Nothing

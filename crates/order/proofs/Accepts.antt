@@ -8,17 +8,12 @@ use native.Mathlib.Omega.{arith}
 use borrow.Author.Tests.{eqb-true}
 use lib.Dec.{eqb}
 use lib.ListN.{getD, set, replicate}
-use lib.Seq.{getD-set-other}
 use Rattle.rules.specs.declared.Reference.{Reference}
 use Rattle.rules.specs.declared.Reference.the-variants.{Nowhere, Wrong, Follow}
 use Rattle.rules.specs.Visits.{unvisited, visitAll, State, markOf, opened, walk, enter, visit}
 use Rattle.order.specs.Reachability.{Reaches, one, step, Faultless}
 
 -- ---- a mark after a store
-
--- another place keeps its mark
-pub mark-other : (l : List ℕ) (d v i : ℕ) → ¬ (i ≡ d) → getD (set l d v) i 2 ≡ getD l i 2
-mark-other l d v i n = getD-set-other l d i v 2 n
 
 -- a mark that is 1 after a store of 2 was 1, and is another's
 pub mark-listed : (l : List ℕ) (d i : ℕ) → getD (set l d 2) i 2 ≡ 1 → (¬ (i ≡ d)) × (getD l i 2 ≡ 1)

@@ -116,6 +116,3 @@ module _ (t b out b′ out′ : List ℕ) (r : Outcome) (h : Checked t b out b�
 
   pub checked-ordered : r .tally .total ≡ 0 → Ordered t out out′ (r .records)
   checked-ordered z = h .accepted (none-found (pass2 (decode t)) (sym checked-total ∙ z))
-
-  pub checked-unchanged : 0 < r .tally .total → out′ ≡ out
-  checked-unchanged z = h .refused (some-found (pass2 (decode t)) (omega (arith, checked-total))) .1

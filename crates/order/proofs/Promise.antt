@@ -25,9 +25,9 @@ use Rattle.rules.specs.declared.Found.the-variants.{At, Nothing}
 use Rattle.rules.specs.declared.Target.the-variants.{DeclNamed}
 use Rattle.rules.specs.declared.Reference.{Reference}
 use Rattle.rules.specs.declared.Reference.the-variants.{Nowhere, Wrong, Follow}
-use Rattle.table.proofs.Laws.{first-in}
+use Rattle.table.proofs.Laws.{at-inj, first-in}
 use Rattle.order.specs.Reachability.{Reaches, one, step, Faultless}
-use Rattle.table.proofs.Searches.{false-true, and-true, at-inj, nothing-at, first-is, first-some}
+use Rattle.table.proofs.Searches.{false-true, and-true, nothing-at, first-is, first-some}
 use Rattle.order.proofs.Accepts.{accepted}
 use Rattle.order.proofs.Sorted.{Ordered, in-order, topological, faultless, follow-inj, follow-wrong, follow-nowhere, wrong-nowhere}
 

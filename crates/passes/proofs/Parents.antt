@@ -18,19 +18,8 @@ use Rattle.rules.specs.PayloadFields.{hasField, hasPayload, childWithField, mis
 use Rattle.rules.specs.declared.Record.{Record}
 use Rattle.rules.specs.declared.Found.{Found}
 use Rattle.rules.specs.declared.Found.the-variants.{At, Nothing}
-use Rattle.table.proofs.Searches.{false-true}
+use Rattle.table.proofs.Searches.{and-false, first-nothing}
 use Rattle.passes.specs.Parents.{Childless, Parents}
-
-first-nothing : (f : ℕ → Bool) (p k : ℕ) → ((i : ℕ) → i < p + k → f i ≡ false) → first f p k ≡ Nothing
-unfolding first
-first-nothing f p zero h = refl
-first-nothing f p (suc k) h =
-    let z : f p ≡ false = h p (omega arith) in
-    rw (first, z) (first-nothing f (p + 1) k (λ i l. h i (omega arith)))
-
-and-false : (a b : Bool) → b ≡ false → (a && b) ≡ false
-and-false true b e = e
-and-false false b e = refl
 
 module _ (rs : List Record) where
   pub childless-start : (marks : List ℕ) → Childless rs marks 0
@@ -49,7 +38,7 @@ module _ (rs : List Record) where
     childless-kind e = childless-more marks (λ d m. (m, rw e))
 
     pub childless-bare : hasField rs n ≡ false → Childless rs marks (n + 1)
-    childless-bare e = childless-more marks (λ d m. (m, and-false (isPacketOrStruct (at rs n .kind) && eqb (at rs n .second) (at rs d .name)) (hasField rs n) e))
+    childless-bare e = childless-more marks (λ d m. (m, rw e (and-false (isPacketOrStruct (at rs n .kind) && eqb (at rs n .second) (at rs d .name)))))
 
     pub childless-marked : (y : ℕ) → y ≡ at rs n .second → length marks ≡ 4093 → Childless rs (set marks (y % 4093) 1) (n + 1)
     childless-marked y e l = childless-more (set marks (y % 4093) 1) (λ d m. go d m (ℕ-discrete (at rs d .name % 4093) (y % 4093)))
@@ -62,7 +51,7 @@ module _ (rs : List Record) where
             absurd (omega arith)
         go d m (no z) =
             let f : eqb (at rs n .second) (at rs d .name) ≡ false = ne-eqb (at rs n .second) (at rs d .name) (λ q. z (ap (λ (i : ℕ). i % 4093) (sym q ∙ sym e))) in
-            (sym (getD-set-other marks (y % 4093) (at rs d .name % 4093) 1 1 z) ∙ m, rw (f, and-false (isPacketOrStruct (at rs n .kind)) false refl))
+            (sym (getD-set-other marks (y % 4093) (at rs d .name % 4093) 1 1 z) ∙ m, rw (f, and-false (isPacketOrStruct (at rs n .kind))))
 
   -- a declaration whose mark is 0, or that has a Payload or Body, lacks none
   pub none-missing : (marks : List ℕ) → Parents rs marks → (d x : ℕ) → x ≡ at rs d .name → getD marks (x % 4093) 1 ≡ 0 → [] ≡ missingPayload rs d (first (childWithField rs d) 0 (length rs))

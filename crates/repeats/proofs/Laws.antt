@@ -18,6 +18,7 @@ use Rattle.rules.specs.EnumDeclarations.{again}
 use Rattle.rules.specs.declared.Record.{Record}
 use Rattle.rules.specs.declared.Found.{Found}
 use Rattle.rules.specs.declared.Found.the-variants.{At, Nothing}
+use Rattle.table.proofs.Searches.{false-true}
 use Rattle.repeats.specs.Marks.{selects, keyOf, targetOf, earlier, Marked, Stamped}
 use Rattle.repeats.specs.declared.Key.{Key}
 use Rattle.repeats.specs.declared.Key.the-variants.{FieldNames, TagNames, TagValues, Sizes, ElementSizes}
@@ -39,19 +40,16 @@ module _ (rs : List Record) (what : Key) (p : ℕ) where
   unfolding earlier nearest foundInside
   hit n e d = rw (add-one, nearest, e, foundInside, d)
 
-never : false ≡ true → ⊥
-never e = let z : _≡_ {A = ℕ} 0 1 = cc in omega arith
-
 -- before the first place
 pub stamped-start : (rs : List Record) (what : Key) (seen : List ℕ) (stamp : ℕ) → Stamped rs what seen stamp 0
 unfolding earlier nearest foundInside
-stamped-start rs what seen stamp = record { known = λ n e. absurd (never e) }
+stamped-start rs what seen stamp = record { known = λ n e. false-true e }
 
 -- a declaration, a record without a key, and one with a key, at p
 module _ (rs : List Record) (what : Key) (p : ℕ) (seen : List ℕ) (stamp : ℕ) where
   pub stamped-decl : isDecl (at rs p .kind) ≡ true → Stamped rs what seen stamp (p + 1)
   stamped-decl d =
-      record { known = λ n e. absurd (never (sym (hit rs what p n (holds-as what n (at rs p) ∙ rw d) d) ∙ e)) }
+      record { known = λ n e. false-true (sym (hit rs what p n (holds-as what n (at rs p) ∙ rw d) d) ∙ e) }
 
   pub stamped-other : Stamped rs what seen stamp p → isDecl (at rs p .kind) ≡ false → selects what (at rs p .kind) ≡ false → Stamped rs what seen stamp (p + 1)
   stamped-other s d e =
@@ -114,7 +112,7 @@ none-found code rs p (At q) e = go (isDecl (at rs q .kind)) refl
   where
     go : (b : Bool) → isDecl (at rs q .kind) ≡ b → [] ≡ repeated code rs p (At q)
     go true d = rw d
-    go false d = absurd (never (sym (rw (foundInside, d) at e)))
+    go false d = false-true (sym (rw (foundInside, d) at e))
 
 pub not-again : (code : ℕ) (rs : List Record) (what : Key) (n p : ℕ) → earlier rs what n p ≡ false → [] ≡ again code rs (targetOf what n) p
 unfolding again earlier

@@ -19,7 +19,7 @@ use Rattle.rules.specs.declared.Found.the-variants.{At}
 use Rattle.rules.specs.declared.Target.{Target}
 use Rattle.rules.specs.declared.Target.the-variants.{Decl}
 use Rattle.table.proofs.Laws.{up-miss}
-use Rattle.table.proofs.Searches.{nearest-is}
+use Rattle.table.proofs.Searches.{and-false, nearest-is}
 use Rattle.repeats.proofs.Laws.{same-default}
 use Rattle.size_fields.specs.SizeStarts.{targetAt, SizeStarts, nameOf, startFor, Later}
 
@@ -56,10 +56,6 @@ starts-one rs places q s l w e = record { skips = λ p h. go p h (ℕ-discrete p
         rw o (w .skips p (λ z. h (o ∙ z)))
 
 -- ---- the only name by which a size can mean a record
-
-and-false : (b : Bool) → (b && false) ≡ false
-and-false true = refl
-and-false false = refl
 
 left-false : (a b : Bool) → (a || b) ≡ false → a ≡ false
 left-false true b e = e

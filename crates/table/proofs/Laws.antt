@@ -56,6 +56,13 @@ pub at-decode : (t : List ℕ) (p : ℕ) → p < length (decode t) → at (decod
 unfolding at decode
 at-decode t p h = at-records (length t / 40) t p (omega (arith, length-records (length t / 40) t))
 
+-- one step of a count of what is left
+pub left-suc : (n p : ℕ) → p < n → n - p ≡ suc (n - (p + 1))
+left-suc n p h = omega arith
+
+pub left-none : (n p : ℕ) → n ≤ p → n - p ≡ zero
+left-none n p h = omega arith
+
 -- a search downwards from p, of which the places from i on are passed
 module _ (f : ℕ → Bool) (p i : ℕ) (so-far : nearest f p ≡ nearest f i) where
   from-below : 0 < i → nearest f p ≡ nearest f (suc (i - 1))
@@ -94,8 +101,8 @@ pub each-more : {A : Type 0} (f : ℕ → List A) (p : ℕ) → each f (p + 1) �
 unfolding each
 each-more f p = rw add-one
 
-at-inj : (p q : ℕ) → At p ≡ At q → p ≡ q
-at-inj p q e = cc
+pub at-inj : {p q : ℕ} → At p ≡ At q → p ≡ q
+at-inj e = cc
 
 -- what a search finds stands below
 pub nearest-below : (f : ℕ → Bool) (p q : ℕ) → nearest f p ≡ At q → q < p
@@ -104,7 +111,7 @@ nearest-below f zero q e = let z : _≡_ {A = ℕ} 0 1 = cc in omega arith
 nearest-below f (suc p) q e = go (nearest-below f p q) (f p) refl
   where
     go : (nearest f p ≡ At q → q < p) → (b : Bool) → f p ≡ b → q < suc p
-    go r true h = let z : p ≡ q = at-inj p q (rw (nearest, h) at e) in omega arith
+    go r true h = let z : p ≡ q = at-inj (rw (nearest, h) at e) in omega arith
     go r false h = let z : q < p = r (rw (nearest, h) at e) in omega arith
 
 first-below : (f : ℕ → Bool) (p k q : ℕ) → first f p k ≡ At q → (q < p + k) × (0 < k)
@@ -113,7 +120,7 @@ first-below f p zero q e = let z : _≡_ {A = ℕ} 0 1 = cc in omega arith
 first-below f p (suc k) q e = go (first-below f (p + 1) k q) (f p) refl
   where
     go : (first f (p + 1) k ≡ At q → (q < p + 1 + k) × (0 < k)) → (b : Bool) → f p ≡ b → (q < p + suc k) × (0 < suc k)
-    go r true h = let z : p ≡ q = at-inj p q (rw (first, h) at e) in omega arith
+    go r true h = let z : p ≡ q = at-inj (rw (first, h) at e) in omega arith
     go r false h = let z : (q < p + 1 + k) × (0 < k) = r (rw (first, h) at e) in omega arith
 
 -- past the end
@@ -133,7 +140,7 @@ first-above f p zero q e = let z : _≡_ {A = ℕ} 0 1 = cc in absurd (omega ari
 first-above f p (suc k) q e = go (first-above f (p + 1) k q) (f p) refl
   where
     go : (first f (p + 1) k ≡ At q → p + 1 ≤ q) → (b : Bool) → f p ≡ b → p ≤ q
-    go r true h = let z : p ≡ q = at-inj p q (rw (first, h) at e) in omega arith
+    go r true h = let z : p ≡ q = at-inj (rw (first, h) at e) in omega arith
     go r false h = let z : p + 1 ≤ q = r (rw (first, h) at e) in omega arith
 
 pub first-in : (f : ℕ → Bool) (n a q : ℕ) → first f a (n - a) ≡ At q → (a ≤ q) × (q < n)
