@@ -1,10 +1,9 @@
 // The fault buffer: the first faults, as many whole ones as fit, and a total that counts all.
 use rules::Fault;
-use rules::Record;
 use rules::Tally;
 ghost use mathlib.Core.Path.{_≡_};
 ghost use Prim.Native.Nat.{_+_, _^_, _<_};
-ghost use Rattle.rules.specs.Faults.{faultBytes, single, double, log};
+ghost use Rattle.rules.specs.Faults.{log};
 ghost use Rattle.faults.specs.Notes.{none, tallied, findings, noted, notedAll};
 
 // The length of a fault in bytes.
@@ -23,62 +22,6 @@ pub fn no_faults() -> Tally
     Tally { kept: 0, total: 0 }
 }
 
-// A fault at r.
-pub fn single(code: u16, r: Record) -> Fault
-    ensures { λ f. ⌜ f ≡ single code r ⌝ }
-{
-    Fault {
-        code,
-        secondary: 0,
-        start: r.start,
-        end: r.end,
-        start2: 0,
-        end2: 0,
-    }
-}
-
-// A fault at r with the secondary s.
-pub fn double(code: u16, r: Record, s: Record) -> Fault
-    ensures { λ f. ⌜ f ≡ double code r s ⌝ }
-{
-    Fault {
-        code,
-        secondary: 1,
-        start: r.start,
-        end: r.end,
-        start2: s.start,
-        end2: s.end,
-    }
-}
-
-// The bytes of a fault.
-fn bytes_of(f: Fault) -> [u8; 20]
-    ensures { λ r. ⌜ r ≡ faultBytes f ⌝ }
-{
-    [
-        (f.code % 256) as u8,
-        (f.code / 256 % 256) as u8,
-        (f.secondary % 256) as u8,
-        (f.secondary / 256 % 256) as u8,
-        (f.start % 256) as u8,
-        (f.start / 256 % 256) as u8,
-        (f.start / 256 / 256 % 256) as u8,
-        (f.start / 256 / 256 / 256 % 256) as u8,
-        (f.end % 256) as u8,
-        (f.end / 256 % 256) as u8,
-        (f.end / 256 / 256 % 256) as u8,
-        (f.end / 256 / 256 / 256 % 256) as u8,
-        (f.start2 % 256) as u8,
-        (f.start2 / 256 % 256) as u8,
-        (f.start2 / 256 / 256 % 256) as u8,
-        (f.start2 / 256 / 256 / 256 % 256) as u8,
-        (f.end2 % 256) as u8,
-        (f.end2 / 256 % 256) as u8,
-        (f.end2 / 256 / 256 % 256) as u8,
-        (f.end2 / 256 / 256 / 256 % 256) as u8,
-    ]
-}
-
 // One fault more: kept where a whole one still fits, and counted.
 fn keep(buffer: &mut [u8], kept: usize, total: usize, f: Fault) -> Tally
     requires { ⌜ total + 1 < 2 ^ 64 ⌝ }
@@ -86,7 +29,7 @@ fn keep(buffer: &mut [u8], kept: usize, total: usize, f: Fault) -> Tally
 {
     let total = total + 1;
     if kept < buffer.len() / FAULT_LENGTH {
-        let bytes = bytes_of(f);
+        let bytes = fault::bytes_of(f);
         store::write(buffer, FAULT_LENGTH * kept, &bytes);
         Tally {
             kept: kept + 1,

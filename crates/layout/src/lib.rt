@@ -90,9 +90,9 @@ fn spare_zero(t: &[u8], i: usize) -> bool
     requires { ⌜ i + 40 ≤ length (now t) ⌝ }
     ensures { λ r. ⌜ r ≡ spareZero (now (t .entry)) i ⌝ }
 {
-    (table::number2(t, i + 26) == 0)
-        & ((table::number2(t, i + 30) == 0)
-            & ((table::number2(t, i + 34) == 0) & (table::number4(t, i + 36) == 0)))
+    (numbers::number2(t, i + 26) == 0)
+        & ((numbers::number2(t, i + 30) == 0)
+            & ((numbers::number2(t, i + 34) == 0) & (table::number4(t, i + 36) == 0)))
 }
 
 // Whether the record at p breaks neither its row nor its place.

@@ -143,12 +143,12 @@ fn fault_at(b: &[u8], i: usize) -> Fault
     ensures { λ r. ⌜ r ≡ faultAt (now (b .entry)) i ⌝ }
 {
     Fault {
-        code: table::number2(b, i),
-        secondary: table::number2(b, i + 2),
-        start: table::number4(b, i + 4),
-        end: table::number4(b, i + 8),
-        start2: table::number4(b, i + 12),
-        end2: table::number4(b, i + 16),
+        code: numbers::number2(b, i),
+        secondary: numbers::number2(b, i + 2),
+        start: numbers::number4(b, i + 4),
+        end: numbers::number4(b, i + 8),
+        start2: numbers::number4(b, i + 12),
+        end2: numbers::number4(b, i + 16),
     }
 }
 

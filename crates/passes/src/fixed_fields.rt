@@ -19,14 +19,14 @@ fn enum_fault(t: &[u8], p: usize, found: Found) -> Finding
         Found::At(d) => {
             let e = table::at(t, d);
             if e.kind != 3 {
-                return Finding::One(faults::double(35, r, e));
+                return Finding::One(fault::double(35, r, e));
             }
             if has_member(t, Target::OuterTagOrDecl(r.third), d) {
                 return Finding::Fine;
             }
-            Finding::One(faults::double(34, r, e))
+            Finding::One(fault::double(34, r, e))
         }
-        Found::Nothing => Finding::One(faults::single(33, r)),
+        Found::Nothing => Finding::One(fault::single(33, r)),
     }
 }
 
@@ -37,7 +37,7 @@ pub fn at_place(t: &[u8], starts: &[u16], p: usize) -> Finding
     let r = table::at(t, p);
     let k = r.kind;
     if k == 27 {
-        return when(r.one < widths::bit_width(r.two), faults::single(32, r));
+        return when(r.one < widths::bit_width(r.two), fault::single(32, r));
     }
     if k == 28 {
         return enum_fault(t, p, names::decl_named(t, starts, r.second));

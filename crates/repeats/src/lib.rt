@@ -131,7 +131,7 @@ fn repeated(code: u16, t: &[u8], p: usize, found: Found) -> Finding
             if kinds::is_decl(s.kind) {
                 return Finding::Fine;
             }
-            Finding::One(faults::double(code, table::at(t, p), s))
+            Finding::One(fault::double(code, table::at(t, p), s))
         }
         Found::Nothing => Finding::Fine,
     }

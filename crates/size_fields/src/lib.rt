@@ -69,14 +69,14 @@ fn misnamed(code: u16, t: &[u8], p: usize, found: Found) -> Finding
             let s = table::at(t, q);
             let k = s.kind;
             if kinds::is_decl(k) {
-                return Finding::One(faults::single(code + 1, r));
+                return Finding::One(fault::single(code + 1, r));
             }
             if is_sized(k) {
                 return Finding::Fine;
             }
-            Finding::One(faults::double(code + 2, r, s))
+            Finding::One(fault::double(code + 2, r, s))
         }
-        Found::Nothing => Finding::One(faults::single(code + 1, r)),
+        Found::Nothing => Finding::One(fault::single(code + 1, r)),
     }
 }
 

@@ -45,10 +45,10 @@ pub fn next_case(input: &mut [u8]) -> Next
     if n < 16 {
         return Next::End;
     }
-    let part = table::number4(&head, 0);
-    let size = table::number4(&head, 4) as usize;
-    let table = table::number4(&head, 8) as usize;
-    let faults = table::number4(&head, 12) as usize;
+    let part = numbers::number4(&head, 0);
+    let size = numbers::number4(&head, 4) as usize;
+    let table = numbers::number4(&head, 8) as usize;
+    let faults = numbers::number4(&head, 12) as usize;
     if input.len() < size || 64000 < table || 64000 < faults {
         return Next::End;
     }

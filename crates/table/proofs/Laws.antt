@@ -1,11 +1,11 @@
 -- Laws of tables, of searches among places and of lists made place by place. Assumes nothing.
-use Prim.Native.Nat.{ℕ, zero, suc, _+_, _-_, _*_, _/_, _^_, _<_, _≤_}
+use Prim.Native.Nat.{ℕ, zero, suc, _+_, _-_, _*_, _/_, _<_, _≤_}
 use mathlib.Core.Path.{_≡_, refl, sym, ap, _∙_}
 use mathlib.Core.List.{List, [], _∷_, _++_}
 use mathlib.Core.Bool.{Bool, true, false}
 use native.Mathlib.Omega.{arith}
 use native.Mathlib.Numerals.{add-one}
-use native.Mathlib.Nat.{not-suc-le-zero, le-of-suc-le-suc, zero-add, add-zero, suc-add, add-assoc, one-mul, mul-suc, mul-comm, mul-assoc, pow-zero, pow-suc}
+use native.Mathlib.Nat.{not-suc-le-zero, le-of-suc-le-suc, add-assoc, mul-suc}
 use lib.ListN.{length, getD, drop, length-append, List·getD-eq-default}
 use lib.Seq.{drop-drop, getD-drop}
 use Rattle.rules.specs.Bytes.{numberAt}
@@ -19,16 +19,6 @@ numberAt-drop : (w j : ℕ) (t : List ℕ) (i : ℕ) → numberAt (drop j t) i w
 unfolding numberAt
 numberAt-drop zero j t i = refl
 numberAt-drop (suc w) j t i = rw (getD-drop, numberAt-drop w j t (i + 1), add-assoc j i 1)
-
--- a number of v + w bytes in two parts
-pub numberAt-parts : (v w : ℕ) (t : List ℕ) (i : ℕ) → numberAt t i (v + w) ≡ numberAt t i v + 256 ^ v * numberAt t (i + v) w
-unfolding numberAt
-numberAt-parts zero w t i = simp (zero-add, add-zero, pow-zero, one-mul)
-numberAt-parts (suc v) w t i =
-    let n : ℕ = numberAt t (i + suc v) w in
-    let e : i + 1 + v ≡ i + suc v = omega arith in
-    let f : 256 ^ suc v * n ≡ 256 * (256 ^ v * n) = ap (λ (x : ℕ). x * n) (pow-suc 256 v ∙ mul-comm (256 ^ v) 256) ∙ mul-assoc 256 (256 ^ v) n in
-    rw (suc-add v w, numberAt, numberAt-parts v w t (i + 1), e, f) (omega arith)
 
 recordAt-drop : (j : ℕ) (t : List ℕ) (i : ℕ) → recordAt (drop j t) i ≡ recordAt t (j + i)
 recordAt-drop j t i = simp (recordAt, getD-drop, numberAt-drop, add-assoc)

@@ -1,9 +1,11 @@
 // The records of a table, read from its bytes.
+use numbers::number2;
+use numbers::number4;
+use numbers::number8;
 use rules::Record;
 ghost use mathlib.Core.Path.{_≡_};
 ghost use Prim.Native.Nat.{_+_, _*_, _<_, _≤_};
 ghost use lib.ListN.{length};
-ghost use Rattle.rules.specs.Bytes.{numberAt};
 ghost use Rattle.rules.specs.Table.{decode, at, recordAt};
 
 // How many whole records there are.
@@ -11,36 +13,6 @@ pub fn count(t: &[u8]) -> usize
     ensures { λ r. ⌜ r ≡ length (decode (now (t .entry))) ⌝ }
 {
     t.len() / 40
-}
-
-// The two bytes from i.
-pub fn number2(t: &[u8], i: usize) -> u16
-    requires { ⌜ i + 2 ≤ length (now t) ⌝ }
-    ensures { λ r. ⌜ r ≡ numberAt (now (t .entry)) i 2 ⌝ }
-{
-    let low = t[i] as u16;
-    let high = t[i + 1] as u16;
-    low + 256 * high
-}
-
-// The four bytes from i.
-pub fn number4(t: &[u8], i: usize) -> u32
-    requires { ⌜ i + 4 ≤ length (now t) ⌝ }
-    ensures { λ r. ⌜ r ≡ numberAt (now (t .entry)) i 4 ⌝ }
-{
-    let low = number2(t, i) as u32;
-    let high = number2(t, i + 2) as u32;
-    low + 65536 * high
-}
-
-// The eight bytes from i.
-fn number8(t: &[u8], i: usize) -> u64
-    requires { ⌜ i + 8 ≤ length (now t) ⌝ }
-    ensures { λ r. ⌜ r ≡ numberAt (now (t .entry)) i 8 ⌝ }
-{
-    let low = number4(t, i) as u64;
-    let high = number4(t, i + 4) as u64;
-    low + 0x1_0000_0000 * high
 }
 
 // Where the bytes of place p start. Its 40 bytes are within the table.

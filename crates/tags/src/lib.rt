@@ -74,7 +74,7 @@ fn note_value(
     let v = r.one;
     let x = again_marked(12, t, Key::TagNames, p, names);
     let y = again_marked(13, t, Key::TagValues, p, values);
-    let z = when((v < low) | (high < v), faults::single(14, r));
+    let z = when((v < low) | (high < v), fault::single(14, r));
     note_three(tally, buffer, x, y, z)
 }
 
@@ -109,7 +109,7 @@ fn note_held(
 {
     let r = table::at(t, p);
     let count = holders(lows, highs, m, r.one);
-    note_times(faults::single(43, r), count, tally, buffer)
+    note_times(fault::single(43, r), count, tally, buffer)
 }
 
 // A range: 12, 40, 40.
@@ -121,7 +121,7 @@ fn note_range(t: &[u8], names: &[u8], most: u64, p: usize, tally: Tally, buffer:
     let low = r.one;
     let high = r.two;
     let x = again_marked(12, t, Key::TagNames, p, names);
-    let f = faults::single(40, r);
+    let f = fault::single(40, r);
     let y = when((most < low) | (most < high), f);
     let z = when(high <= low, f);
     note_three(tally, buffer, x, y, z)

@@ -1,10 +1,10 @@
--- `table::number2` meets its contract: each byte is below 256. Assumes nothing.
+-- `numbers::number2` meets its contract: each byte is below 256. Assumes nothing.
 use borrow.Author.Needs.{needs}
 use native.Mathlib.Omega.{arith}
 use Prim.Native.Nat.{_+_}
 use Rattle.rules.specs.Bytes.{numberAt}
-use Rattle.table.proofs.number2.Statement.{statement}
-use Rattle.table.proofs.number2.Tie as tie
+use Rattle.numbers.proofs.number2.Statement.{statement}
+use Rattle.numbers.proofs.number2.Tie as tie
 
 cast-low : tie.Need-cast-low
 cast-low c = omega (arith, c .shared-slice-known .given (c .before .args .i))

@@ -1,0 +1,20 @@
+-- `fault::bytes_of` meets its contract. Assumes nothing.
+use mathlib.Core.Path.{refl}
+use Rattle.numbers.proofs.Parts.{low-byte}
+use Rattle.rules.specs.Bytes.{bytes}
+use Rattle.rules.specs.Faults.{faultBytes}
+use Rattle.fault.proofs.bytes_of.Statement.{statement}
+use Rattle.fault.proofs.bytes_of.Tie as tie
+
+returns : tie.Need-returns
+unfolding faultBytes bytes
+returns c = refl
+
+pub bytes-of-spec : {M : Type 1} → statement M
+bytes-of-spec =
+    tie.close
+    (tie.spec
+    (λ c. low-byte _) (λ c. low-byte _) (λ c. low-byte _) (λ c. low-byte _) (λ c. low-byte _) (λ c. low-byte _)
+    (λ c. low-byte _) (λ c. low-byte _) (λ c. low-byte _) (λ c. low-byte _) (λ c. low-byte _) (λ c. low-byte _)
+    (λ c. low-byte _) (λ c. low-byte _) (λ c. low-byte _) (λ c. low-byte _) (λ c. low-byte _) (λ c. low-byte _)
+    (λ c. low-byte _) (λ c. low-byte _) returns)
