@@ -1,6 +1,7 @@
 -- `search::nearest_decl` meets its contract: no place from j up to p is a declaration. Assumes nothing.
 use borrow.Author.Needs.{needs}
-use mathlib.Core.Path.{_≡_, refl, sym, _∙_}
+use mathlib.Core.Path.{_≡_, refl, sym, ap, _∙_}
+use Rattle.rules.specs.Kinds.{isDecl}
 use Rattle.rules.specs.Table.{decode}
 use Rattle.rules.specs.Places.{nearest, holdsAt}
 use Rattle.rules.specs.declared.Target.the-variants.{Decl}
@@ -19,14 +20,14 @@ returns c =
     let h = c .before in
     let r = h .before in
     let l = r .before .before .loop in
-    down-hit _ _ (l .j) (l .inv) (r .before .loop-test .taken) (rw (← r .kind .ensures) (sym (h .is-decl .ensures) ∙ c .if1 .taken))
+    down-hit _ _ (l .j) (l .inv) (r .before .loop-test .taken) (ap isDecl (sym (r .kind .ensures)) ∙ sym (h .is-decl .ensures) ∙ c .if1 .taken)
 
 loop-again : tie.Need-loop-again Inv-loop μ-loop
 loop-again c =
     let h = c .before in
     let r = h .before in
     let l = r .before .before .loop in
-    down-miss _ _ (l .j) (l .inv) (r .before .loop-test .taken) (rw (← r .kind .ensures) (sym (h .is-decl .ensures) ∙ c .if1 .left))
+    down-miss _ _ (l .j) (l .inv) (r .before .loop-test .taken) (ap isDecl (sym (r .kind .ensures)) ∙ sym (h .is-decl .ensures) ∙ c .if1 .left)
 
 returns-2 : tie.Need-returns-2 Inv-loop μ-loop
 returns-2 c = down-end _ _ (c .before .loop .j) (c .before .loop .inv) (c .loop-test .left)
