@@ -14,7 +14,7 @@ ghost use Rattle.rules.specs.Faults.{log, logged};
 ghost use Rattle.rules.specs.EnumDeclarations.{tagsFaults, enumFaults, pass4At, pass4};
 ghost use Rattle.faults.specs.Notes.{notedAll};
 ghost use Rattle.repeats.specs.Marks.{Marked};
-ghost use Rattle.ranges.specs.Bounds.{Bounds};
+ghost use Rattle.bounds.specs.Bounds.{Bounds};
 ghost use Rattle.repeats.specs.declared.Key.the-variants.{TagNames, TagValues};
 
 // How many tags the enum at d has: those up to the next declaration.
@@ -88,7 +88,7 @@ fn note_enum(
 {
     let m = ranges::arrange(t, d, n, s, lows, highs);
     let kept = note_tags(t, names, values, lows, highs, m, d, n, tally, buffer);
-    ranges::note_overlaps(t, s, m, kept, buffer)
+    overlaps::note_overlaps(t, s, m, kept, buffer)
 }
 
 // What stands at d, if it is an enum.

@@ -17,9 +17,9 @@ use Rattle.rules.specs.EnumDeclarations.{lesser, holding, heldAt, held, rangeAt
 use Rattle.rules.specs.declared.Record.{Record}
 use Rattle.rules.specs.declared.Fault.{Fault}
 use Rattle.table.proofs.Laws.{each-more}
-use Rattle.ranges.specs.Order.{Ordered}
-use Rattle.ranges.specs.Bounds.{one, countOf, holders, lowsOf, highsOf, Bounds}
-use Rattle.ranges.proofs.Counts.{count-append}
+use Rattle.bounds.specs.Order.{Ordered}
+use Rattle.bounds.specs.Bounds.{one, countOf, holders, lowsOf, highsOf, Bounds}
+use Rattle.bounds.proofs.Counts.{count-append}
 use Rattle.ranges.proofs.Stable.{before-low, ranges-ordered}
 
 -- a list that is sorted

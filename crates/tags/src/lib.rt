@@ -1,8 +1,8 @@
 // The faults of one tag of an enum.
+use bounds::greater;
+use bounds::holders;
+use bounds::lesser;
 use faults::Finding;
-use ranges::bounds::greater;
-use ranges::bounds::holders;
-use ranges::bounds::lesser;
 use repeats::Key;
 use repeats::again;
 use repeats::again_marked;
@@ -22,7 +22,7 @@ ghost use Rattle.rules.specs.EnumDeclarations.{rangeFound, valueFaults, held, r
 ghost use Rattle.faults.specs.Notes.{findings, notedAll};
 ghost use Rattle.repeats.specs.Marks.{Marked};
 ghost use Rattle.repeats.specs.declared.Key.the-variants.{TagNames, TagValues};
-ghost use Rattle.ranges.specs.Bounds.{Bounds};
+ghost use Rattle.bounds.specs.Bounds.{Bounds};
 ghost use Rattle.tags.specs.Before.{rangeBefore};
 
 // The range that a search found.

@@ -9,7 +9,7 @@ use lib.ListN.{length}
 use Rattle.rules.specs.Table.{decode}
 use Rattle.rules.specs.Places.{each}
 use Rattle.rules.specs.EnumDeclarations.{pass4At, pass4}
-use Rattle.ranges.proofs.Splits.{clash}
+use Rattle.bounds.proofs.Splits.{clash}
 use Rattle.enums.proofs.Laws.{none-start, none-more}
 use Rattle.enums.proofs.has_enum.Statement.{statement}
 use Rattle.enums.proofs.has_enum.Tie as tie

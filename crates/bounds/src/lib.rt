@@ -6,8 +6,8 @@ ghost use lib.Dec.{leb};
 ghost use lib.ListN.{length, take};
 ghost use Rattle.rules.specs.Table.{decode};
 ghost use Rattle.rules.specs.EnumDeclarations.{lesser, greater};
-ghost use Rattle.ranges.specs.Order.{Ordered, Split};
-ghost use Rattle.ranges.specs.Bounds.{one, countOf, holders, lowsOf, highsOf};
+ghost use Rattle.bounds.specs.Bounds.{one, countOf, holders, lowsOf, highsOf};
+ghost use Rattle.bounds.specs.Order.{Ordered, Split};
 
 // The bounds of a range, put in order.
 pub fn lesser(r: Record) -> u64
@@ -23,7 +23,7 @@ pub fn greater(r: Record) -> u64
 }
 
 // The bounds of the ranges at the first m places of s.
-pub(crate) fn fill(t: &[u8], s: &[u16], m: usize, lows: &mut [u64], highs: &mut [u64])
+pub fn fill(t: &[u8], s: &[u16], m: usize, lows: &mut [u64], highs: &mut [u64])
     requires { ⌜ (m ≤ length (now s)) × (m ≤ length (now lows)) × (m ≤ length (now highs)) ⌝ }
     ensures { λ _. ⌜ (take m (now (lows .exit)) ≡ lowsOf (decode (now (t .entry))) (take m (now (s .entry)))) × (take m (now (highs .exit)) ≡ highsOf (decode (now (t .entry))) (take m (now (s .entry)))) ⌝ }
 {

@@ -1,14 +1,14 @@
--- `ranges::bounds::at_most` meets its contract: those below `low` are at most v, those from `high` on are not. Assumes nothing.
+-- `bounds::at_most` meets its contract: those below `low` are at most v, those from `high` on are not. Assumes nothing.
 use borrow.Author.Needs.{needs}
 use denote.Ref.{now}
 use Prim.Native.Nat.{_-_, _≤_}
 use lib.Dec.{leb}
 use lib.ListN.{take}
 use borrow.Author.Tests.{le-leb, lt-leb}
-use Rattle.ranges.specs.Order.{Split}
-use Rattle.ranges.proofs.Splits.{split-start, split-up, split-down, split-end, leb-trans}
-use Rattle.ranges.proofs.bounds.at_most.Statement.{statement}
-use Rattle.ranges.proofs.bounds.at_most.Tie as tie
+use Rattle.bounds.specs.Order.{Split}
+use Rattle.bounds.proofs.Splits.{split-start, split-up, split-down, split-end, leb-trans}
+use Rattle.bounds.proofs.at_most.Statement.{statement}
+use Rattle.bounds.proofs.at_most.Tie as tie
 
 abbrev Inv-loop : tie.InvT-loop
 Inv-loop s n v low₀ high₀ low high = (low ≤ high) × (high ≤ n) × Split (λ x. leb x v) (take n s) low high

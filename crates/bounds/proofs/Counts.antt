@@ -7,7 +7,7 @@ use native.Mathlib.Omega.{arith}
 use native.Mathlib.Numerals.{add-one}
 use lib.ListN.{length, getD, take, set}
 use lib.Seq.{take-suc, take-suc-set}
-use Rattle.ranges.specs.Bounds.{one, countOf}
+use Rattle.bounds.specs.Bounds.{one, countOf}
 
 -- a list made longer, and one element at its end
 module _ (f : ℕ → Bool) where

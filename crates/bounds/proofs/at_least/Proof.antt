@@ -1,4 +1,4 @@
--- `ranges::bounds::at_least` meets its contract: after j turns the first j numbers are counted. Assumes nothing.
+-- `bounds::at_least` meets its contract: after j turns the first j numbers are counted. Assumes nothing.
 use borrow.Author.Needs.{needs}
 use native.Mathlib.Nat.{le-antisymm}
 use denote.Ref.{now}
@@ -6,10 +6,10 @@ use Prim.Native.Nat.{ℕ, _-_, _≤_}
 use mathlib.Core.Path.{_≡_, ap, _∙_}
 use lib.Dec.{leb}
 use lib.ListN.{take}
-use Rattle.ranges.specs.Bounds.{countOf}
-use Rattle.ranges.proofs.Counts.{count-none, count-more}
-use Rattle.ranges.proofs.bounds.at_least.Statement.{statement}
-use Rattle.ranges.proofs.bounds.at_least.Tie as tie
+use Rattle.bounds.specs.Bounds.{countOf}
+use Rattle.bounds.proofs.Counts.{count-more, count-none}
+use Rattle.bounds.proofs.at_least.Statement.{statement}
+use Rattle.bounds.proofs.at_least.Tie as tie
 
 abbrev Inv-loop : tie.InvT-loop
 Inv-loop s k v count₀ j₀ count j = (count ≡ countOf (λ x. leb v x) (take j s)) × (count ≤ j) × (j ≤ k)

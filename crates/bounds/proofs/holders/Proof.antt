@@ -1,9 +1,9 @@
--- `ranges::bounds::holders` meets its contract. Assumes nothing.
+-- `bounds::holders` meets its contract. Assumes nothing.
 use borrow.Author.Needs.{needs}
 use mathlib.Core.Path.{_∙_}
-use Rattle.ranges.proofs.Splits.{holders-first}
-use Rattle.ranges.proofs.bounds.holders.Statement.{statement}
-use Rattle.ranges.proofs.bounds.holders.Tie as tie
+use Rattle.bounds.proofs.Splits.{holders-first}
+use Rattle.bounds.proofs.holders.Statement.{statement}
+use Rattle.bounds.proofs.holders.Tie as tie
 
 returns : tie.Need-returns
 returns c =

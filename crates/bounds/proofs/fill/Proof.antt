@@ -1,17 +1,16 @@
--- `ranges::bounds::fill` meets its contract: after j turns the bounds of the first j ranges are there. Assumes nothing.
+-- `bounds::fill` meets its contract: after j turns the bounds of the first j ranges are there. Assumes nothing.
 use borrow.Author.Needs.{needs}
 use native.Mathlib.Omega.{arith}
-use native.Mathlib.Nat.{le-antisymm}
 use denote.Ref.{now}
 use Prim.Native.Nat.{_-_, _≤_}
 use mathlib.Core.Path.{_≡_, refl}
 use lib.ListN.{length, take, length-set}
 use Rattle.rules.specs.Table.{decode, at}
 use Rattle.rules.specs.EnumDeclarations.{lesser, greater}
-use Rattle.ranges.specs.Bounds.{lowsOf, highsOf}
-use Rattle.ranges.proofs.Counts.{bounds-more}
-use Rattle.ranges.proofs.bounds.fill.Statement.{statement}
-use Rattle.ranges.proofs.bounds.fill.Tie as tie
+use Rattle.bounds.specs.Bounds.{lowsOf, highsOf}
+use Rattle.bounds.proofs.Counts.{bounds-more}
+use Rattle.bounds.proofs.fill.Statement.{statement}
+use Rattle.bounds.proofs.fill.Tie as tie
 
 abbrev Inv-loop : tie.InvT-loop
 Inv-loop t s m lows₀ highs₀ j₀ lows highs j =
@@ -46,7 +45,8 @@ loop-again c =
 returns : tie.Need-returns Inv-loop μ-loop
 returns c =
     let l = c .before in
-    let e = le-antisymm (l .loop .inv .2) (c .loop-test .left) in
+    let s = l .before .before .before .before .before in
+    let e : l .loop .j ≡ s .args .m = omega (arith, l .loop .inv .2, c .loop-test .left) in
     (rw e at (l .loop .inv .0), rw e at (l .loop .inv .1))
 
 pub fill-spec : {M : Type 1} → statement M

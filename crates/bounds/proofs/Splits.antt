@@ -11,8 +11,8 @@ use lib.Dec.{leb}
 use lib.ListN.{length, getD, take, drop}
 use lib.Seq.{length-take-le, getD-take, take-take}
 use Rattle.rules.specs.Sorts.{insert}
-use Rattle.ranges.specs.Order.{Ordered, Split}
-use Rattle.ranges.specs.Bounds.{one, countOf, holders}
+use Rattle.bounds.specs.Bounds.{one, countOf, holders}
+use Rattle.bounds.specs.Order.{Ordered, Split}
 
 pub false-of : (b : Bool) → (b ≡ true → ⊥) → b ≡ false
 false-of true h = absurd (h refl)
