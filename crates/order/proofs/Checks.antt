@@ -15,10 +15,11 @@ use Rattle.rules.specs.declared.Fault.{Fault}
 use Rattle.rules.specs.declared.Record.{Record}
 use Rattle.faults.specs.Notes.{none}
 use Rattle.faults.proofs.Laws.{noted-logged, total-after}
-use Rattle.order.specs.declared.Progress.{Progress}
+use Rattle.visits.specs.declared.Progress.{Progress}
 use Rattle.order.specs.declared.Outcome.{Outcome}
-use Rattle.order.specs.Contract.{Held, Placed, Ordered, Checked, allBytes}
-use Rattle.order.proofs.Loop.{order-read, order-short}
+use Rattle.visits.specs.Contract.{Held}
+use Rattle.visits.proofs.Loop.{order-read, order-short}
+use Rattle.order.specs.Contract.{Placed, Ordered, Checked, allBytes}
 use Rattle.order.proofs.Promise.{listed-declared}
 use Rattle.order.proofs.Copies.{all-length, all-decode}
 use Rattle.order.proofs.Room.{ordered-short}

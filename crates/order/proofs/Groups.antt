@@ -1,5 +1,5 @@
--- The listed table of an accepted one with unique names: its names are unique, its fields stand in declarations, and every group
--- stands before the declaration that holds a field of it. Assumes nothing.
+-- In the listed table of an accepted one with unique names every group stands before the declaration that holds a field of it.
+-- Assumes nothing.
 use mathlib.Core.Path.{_≡_, refl, sym, _∙_, ap, subst}
 use mathlib.Core.Bool.{true, false}
 use mathlib.Core.List.{List, [], _∷_, _++_}
@@ -124,17 +124,6 @@ module _ (rs : List Record) where
         let name : at rs (getD l (w .0) 0) .name ≡ x = ap (λ (r : Record). r .name) same ∙ eqb-true (at os i .name) x (y .1) in
         w .2 ∙ ap (offset l) (listing .once (w .0) k (w .1) h (u (getD l (w .0) 0) (getD l k 0) (declared-at (w .0) (w .1)) (n .0) (name ∙ sym (n .1)))))
 
-    -- names are unique in the listed table, too
-    pub ordered-unique : UniqueNames (ordered rs)
-    unfolding ordered l os
-    ordered-unique d e dd de n =
-        let v = decl-place d (dd .0) (named-is-decl (at os d .kind) (dd .1)) in
-        let w = decl-place e (de .0) (named-is-decl (at os e .kind) (de .1)) in
-        let dv : at os d ≡ at rs (getD l (v .0) 0) = ap (at os) (v .2) ∙ own-at (v .0) (v .1) in
-        let ew : at os e ≡ at rs (getD l (w .0) 0) = ap (at os) (w .2) ∙ own-at (w .0) (w .1) in
-        let name : at rs (getD l (v .0) 0) .name ≡ at rs (getD l (w .0) 0) .name = ap (λ (r : Record). r .name) (sym dv) ∙ n ∙ ap (λ (r : Record). r .name) ew in
-        v .2 ∙ ap (offset l) (listing .once (v .0) (w .0) (v .1) (w .1) (u _ _ (declared-at (v .0) (v .1)) (declared-at (w .0) (w .1)) name)) ∙ sym (w .2)
-
     nearest-decl : (p i j : ℕ) (x : i < length l) → 0 < j → j < length (declRecords rs (getD l i 0)) → p ≡ offset l i + j → nearest (holdsAt os Decl) p ≡ At (offset l i)
     nearest-decl p i j x z y e =
         nearest-is (holdsAt os Decl) p (offset l i) (omega arith)
@@ -142,16 +131,6 @@ module _ (rs : List Record) where
         (λ q s t.
         let n : q ≡ offset l i + (q - offset l i) = omega arith in
         ap (λ (m : ℕ). isDecl (at os m .kind)) n ∙ member-free i (q - offset l i) x (omega arith) (omega arith))
-
-    -- every record of the listed table but declarations stands in a declaration
-    pub ordered-held : (p : ℕ) → p < length (ordered rs) → isDecl (at (ordered rs) p .kind) ≡ false → (d : ℕ) × (nearest (holdsAt (ordered rs) Decl) p ≡ At d)
-    unfolding ordered l os
-    ordered-held p h k = let w = place-of l p h in go (w .0) (w .1) (w .2) (w .3) (w .4)
-      where
-        go : (i j : ℕ) → i < length l → j < length (declRecords rs (getD l i 0)) → p ≡ offset l i + j → (d : ℕ) × (nearest (holdsAt os Decl) p ≡ At d)
-        go i zero x y z =
-            false-true (sym k ∙ ap (λ (m : ℕ). isDecl (at os m .kind)) (z ∙ add-zero (offset l i)) ∙ rw (own-at i x) (named-decl rs (getD l i 0) (declared-at i x)))
-        go i (suc j) x y z = (offset l i, nearest-decl p i (suc j) x (omega arith) y z)
 
     -- the group field at the j-th record of the i-th declaration
     module _ (p i j : ℕ) (x : i < length l) (y : j < length (declRecords rs (getD l i 0))) (e : p ≡ offset l i + j) (k : is kind.groupField (at os p) ≡ true) where

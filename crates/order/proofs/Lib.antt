@@ -1,7 +1,3 @@
-pub mod Bounds
-pub mod Skips
-pub mod Ready
-pub mod Loop
 pub mod Accepts
 pub mod Sorted
 pub mod Promise

@@ -14,9 +14,9 @@ use lib.Seq.{getD-set-same, getD-set-other}
 use Rattle.rules.specs.declared.Reference.{Reference}
 use Rattle.rules.specs.declared.Reference.the-variants.{Nowhere, Wrong, Follow}
 use Rattle.rules.specs.Visits.{PlaceFault, State, markOf, opened, noted, listed, walk, enter, visit, unvisited, visitAll}
-use Rattle.order.specs.Reachability.{unvisitedCount}
+use Rattle.visits.specs.Contract.{unvisitedCount}
 use Rattle.order.specs.Reachability.{Reaches, one, step, TopologicalOrder, Faultless}
-use Rattle.order.proofs.Bounds.{unvisited-set, unvisited-opened}
+use Rattle.visits.proofs.Bounds.{unvisited-set, unvisited-opened, unvisited-all}
 
 -- ---- faults are only ever added
 
@@ -281,11 +281,6 @@ module _ {f : ℕ → List Reference} where
       last-step (step {x = y} g w′) = reaches-in o (a y g) w′
 
 -- ---- all visits
-
-pub unvisited-all : (n : ℕ) → unvisitedCount (replicate n 0) ≡ n
-unfolding unvisitedCount
-unvisited-all zero = refl
-unvisited-all (suc n) = ap suc (unvisited-all n)
 
 legal-all : (n i : ℕ) → getD {A = ℕ} (replicate n 0) i 2 ≤ 2
 legal-all zero i = le-refl 2

@@ -1,7 +1,7 @@
 -- The visits as a search of a graph: which declarations reach which, and what a list in topological order is.
 use mathlib.Core.Path.{_≡_}
-use mathlib.Core.List.{List, [], _∷_, List·Memᴰ}
-use Prim.Native.Nat.{ℕ, zero, suc, _<_}
+use mathlib.Core.List.{List, List·Memᴰ}
+use Prim.Native.Nat.{ℕ, _<_}
 use lib.ListN.{length, getD}
 use Rattle.rules.specs.declared.Reference.{Reference}
 use Rattle.rules.specs.declared.Reference.the-variants.{Wrong, Follow}
@@ -23,9 +23,3 @@ pub record Faultless (f : ℕ → List Reference) (roots : List Reference) : Typ
   pub right-roots : (c p : ℕ) → List·Memᴰ (Wrong c p) roots → ⊥
   pub right : (d : ℕ) → List·Memᴰ (Follow d) roots → (c p : ℕ) → List·Memᴰ (Wrong c p) (f d) → ⊥
   pub acyclic : (d : ℕ) → List·Memᴰ (Follow d) roots → Reaches f d d → ⊥
-
--- how many marks are of places not visited yet
-unfoldable pub unvisitedCount : List ℕ → ℕ
-unvisitedCount [] = zero
-unvisitedCount (zero ∷ l) = suc (unvisitedCount l)
-unvisitedCount (suc m ∷ l) = unvisitedCount l

@@ -1,7 +1,7 @@
--- `order::refers_nowhere` meets its contract. Assumes nothing.
+-- `visits::refers_nowhere` meets its contract. Assumes nothing.
 use borrow.Author.Needs.{needs}
-use Rattle.order.proofs.refers_nowhere.Statement.{statement}
-use Rattle.order.proofs.refers_nowhere.Tie as tie
+use Rattle.visits.proofs.refers_nowhere.Statement.{statement}
+use Rattle.visits.proofs.refers_nowhere.Tie as tie
 
 returns : tie.Need-returns
 returns c = rw (c .member-at .ensures, c .before .kind .ensures)

@@ -1,8 +1,8 @@
--- `order::note` meets its contract. Assumes nothing.
+-- `visits::note` meets its contract. Assumes nothing.
 use borrow.Author.Needs.{needs}
 use mathlib.Core.Path.{refl}
-use Rattle.order.proofs.note.Statement.{statement}
-use Rattle.order.proofs.note.Tie as tie
+use Rattle.visits.proofs.note.Statement.{statement}
+use Rattle.visits.proofs.note.Tie as tie
 
 returns : tie.Need-returns
 returns c =

@@ -1,4 +1,4 @@
--- The cycle of calls of `order::visit` and `order::walk` meets its contracts. Each measure is the pair of the unvisited places and
+-- The cycle of calls of `visits::visit` and `visits::walk` meets its contracts. Each measure is the pair of the unvisited places and
 -- the fields left, as one number; the laws are in Ready.
 -- Assumes nothing.
 use borrow.Author.Needs.{needs}
@@ -10,23 +10,23 @@ use lib.ListN.{length, length-set}
 use borrow.Fn.Kinds.{In}
 use borrow.Fn.PlainCycle.{Measures, is, falls, and}
 use Rattle.rules.specs.Table.{decode}
-use Rattle.order.specs.Reachability.{unvisitedCount}
-use Rattle.order.proofs.Bounds.{member-below}
-use Rattle.order.proofs.Ready.{follow-in, Step, step-follow, step-wrong, step-nowhere, call-note, mark-in, next-fits, call-walk, call-own, call-list, ret-new, ret-open, ret-listed, call-field, call-rest, ret-more, walked-end}
-use Rattle.order.proofs.visit.Reads as visit
-use Rattle.order.proofs.visit.Kinds as visit-kinds
-use Rattle.order.proofs.+visit+walk.Lts-visit as visit-lts
-use Rattle.order.proofs.walk.Reads as walk
-use Rattle.order.proofs.walk.Kinds as walk-kinds
-use Rattle.order.proofs.+visit+walk.Lts-walk as walk-lts
-use Rattle.order.proofs.next_reference.Reads as next-reference-reads
-use Rattle.order.proofs.member_at.Reads as member-at-reads
+use Rattle.visits.specs.Contract.{unvisitedCount}
+use Rattle.visits.proofs.Bounds.{member-below}
+use Rattle.visits.proofs.Ready.{follow-in, Step, step-follow, step-wrong, step-nowhere, call-note, mark-in, next-fits, call-walk, call-own, call-list, ret-new, ret-open, ret-listed, call-field, call-rest, ret-more, walked-end}
+use Rattle.visits.proofs.visit.Reads as visit
+use Rattle.visits.proofs.visit.Kinds as visit-kinds
+use Rattle.visits.proofs.+visit+walk.Lts-visit as visit-lts
+use Rattle.visits.proofs.walk.Reads as walk
+use Rattle.visits.proofs.walk.Kinds as walk-kinds
+use Rattle.visits.proofs.+visit+walk.Lts-walk as walk-lts
+use Rattle.visits.proofs.next_reference.Reads as next-reference-reads
+use Rattle.visits.proofs.member_at.Reads as member-at-reads
 use Rattle.references.proofs.field_reference.Reads as field-reference-reads
-use Rattle.order.proofs.list.Reads as list-reads
-use Rattle.order.proofs.note.Reads as note-reads
+use Rattle.visits.proofs.list.Reads as list-reads
+use Rattle.visits.proofs.note.Reads as note-reads
 use Rattle.references.proofs.own_reference.Reads as own-reference-reads
-use Rattle.order.proofs.+visit+walk.{statement}
-use Rattle.order.proofs.+visit+walk.Tie.{close}
+use Rattle.visits.proofs.+visit+walk.{statement}
+use Rattle.visits.proofs.+visit+walk.Tie.{close}
 
 abbrev μ-visit : Measures 5 visit-kinds.ps ℕ
 μ-visit κs a = unvisitedCount (a .1 .1 .1 .0 .now) * 2048

@@ -28,10 +28,9 @@ use Rattle.faults.specs.Notes as notes
 use Rattle.faults.specs.Notes.{none}
 use Rattle.faults.proofs.Laws.{noted-then, noted-one, total-after}
 use Rattle.table.proofs.Laws.{first-in}
-use Rattle.order.specs.declared.Progress.{Progress}
-use Rattle.order.specs.Reachability.{unvisitedCount}
-use Rattle.order.specs.Contract.{memberAt, Within, Held, Ready, Visited, Walked, Skipped}
-use Rattle.order.proofs.Bounds.{Bounds, member-below, unvisited-opened, getD-any, resolve-bounds, walk-bounds, visit-bounds, fields-one, fields-none, fields-length, references-length}
+use Rattle.visits.specs.declared.Progress.{Progress}
+use Rattle.visits.specs.Contract.{unvisitedCount, memberAt, Within, Held, Ready, Visited, Walked, Skipped}
+use Rattle.visits.proofs.Bounds.{Bounds, member-below, unvisited-opened, getD-any, resolve-bounds, walk-bounds, visit-bounds, fields-one, fields-none, fields-length, references-length}
 
 -- ---- how each step of the code changes the state that the slices hold
 

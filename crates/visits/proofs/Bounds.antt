@@ -7,17 +7,16 @@ use native.Mathlib.Nat.{le-refl}
 use native.Mathlib.Omega.{arith}
 use borrow.Author.Tests.{not-true, eqb-true, ltb-true, lt-ltb}
 use lib.Dec.{eqb, ltb}
-use lib.ListN.{length, getD, set, length-append, length-set}
+use lib.ListN.{length, getD, set, replicate, length-append, length-set}
 use Rattle.rules.specs.declared.Reference.{Reference}
 use Rattle.rules.specs.declared.Reference.the-variants.{Nowhere, Wrong, Follow}
 use Rattle.rules.specs.Visits.{State, markOf, opened, noted, resolve, walk, enter, visit}
 use Rattle.table.proofs.Searches.{and-true}
-use Rattle.order.specs.Reachability.{unvisitedCount}
 use Rattle.rules.specs.Kinds.{isDecl}
 use Rattle.rules.specs.Table.{at}
 use Rattle.rules.specs.DeclIdentifiers.{fieldReference, fieldReferences, references}
 use Rattle.rules.specs.declared.Record.{Record}
-use Rattle.order.specs.Contract.{memberAt}
+use Rattle.visits.specs.Contract.{unvisitedCount, memberAt}
 
 -- a mark set to anything but 0 leaves no more places unvisited
 pub unvisited-set : (l : List ℕ) (d v : ℕ) → unvisitedCount (set l d (suc v)) ≤ unvisitedCount l
@@ -36,6 +35,11 @@ unvisited-opened (zero ∷ l) zero e = refl
 unvisited-opened (suc m ∷ l) zero e = absurd (omega arith)
 unvisited-opened (zero ∷ l) (suc d) e = ap suc (unvisited-opened l d e)
 unvisited-opened (suc m ∷ l) (suc d) e = unvisited-opened l d e
+
+pub unvisited-all : (n : ℕ) → unvisitedCount (replicate n 0) ≡ n
+unfolding unvisitedCount
+unvisited-all zero = refl
+unvisited-all (suc n) = ap suc (unvisited-all n)
 
 -- within a list the default does not matter
 pub getD-any : (l : List ℕ) (d x y : ℕ) → d < length l → getD l d x ≡ getD l d y

@@ -1,10 +1,10 @@
--- `order::visit_root` meets its contract. Assumes nothing.
+-- `visits::visit_root` meets its contract. Assumes nothing.
 use borrow.Author.Needs.{needs}
 use mathlib.Core.Path.{sym, _∙_}
 use Rattle.rules.specs.Table.{decode}
-use Rattle.order.proofs.Ready.{follow-in, within-root, call-note, ret-follow, ret-wrong, ret-nowhere}
-use Rattle.order.proofs.visit_root.Statement.{statement}
-use Rattle.order.proofs.visit_root.Tie as tie
+use Rattle.visits.proofs.Ready.{follow-in, within-root, call-note, ret-follow, ret-wrong, ret-nowhere}
+use Rattle.visits.proofs.visit_root.Statement.{statement}
+use Rattle.visits.proofs.visit_root.Tie as tie
 
 visit-requires : tie.Need-visit-requires
 visit-requires c κs =

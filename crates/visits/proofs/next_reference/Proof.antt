@@ -1,14 +1,14 @@
--- `order::next_reference` meets its contract: the fields from p up to q are skipped. Assumes nothing.
+-- `visits::next_reference` meets its contract: the fields from p up to q are skipped. Assumes nothing.
 use borrow.Author.Needs.{needs}
 use native.Mathlib.Omega.{arith}
 use Prim.Native.Nat.{_-_}
 use mathlib.Core.Path.{sym, _∙_}
 use lib.ListN.{length}
 use Rattle.rules.specs.Table.{decode}
-use Rattle.order.specs.Contract.{Skipped}
-use Rattle.order.proofs.Skips.{skip-below, skip-none, skip-more}
-use Rattle.order.proofs.next_reference.Statement.{statement}
-use Rattle.order.proofs.next_reference.Tie as tie
+use Rattle.visits.specs.Contract.{Skipped}
+use Rattle.visits.proofs.Skips.{skip-below, skip-none, skip-more}
+use Rattle.visits.proofs.next_reference.Statement.{statement}
+use Rattle.visits.proofs.next_reference.Tie as tie
 
 abbrev Inv-loop : tie.InvT-loop
 Inv-loop t p q₀ q = Skipped (decode t) p q

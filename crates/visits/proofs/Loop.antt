@@ -12,12 +12,10 @@ use Rattle.rules.specs.declared.Record.{Record}
 use Rattle.rules.specs.declared.Tally.{Tally}
 use Rattle.faults.specs.Notes.{none}
 use Rattle.faults.proofs.Laws.{noted-none}
-use Rattle.order.specs.declared.Progress.{Progress}
-use Rattle.order.specs.Reachability.{unvisitedCount}
-use Rattle.order.specs.Contract.{Held, Ready, Visited}
-use Rattle.order.proofs.Bounds.{resolve-bounds, walk-bounds, visit-bounds, references-length}
-use Rattle.order.proofs.Ready.{after}
-use Rattle.order.proofs.Sorted.{unvisited-all}
+use Rattle.visits.specs.declared.Progress.{Progress}
+use Rattle.visits.specs.Contract.{unvisitedCount, Held, Ready, Visited}
+use Rattle.visits.proofs.Bounds.{unvisited-all, resolve-bounds, walk-bounds, visit-bounds, references-length}
+use Rattle.visits.proofs.Ready.{after}
 
 unvisited-few : (l : List ℕ) → unvisitedCount l ≤ length l
 unfolding unvisitedCount

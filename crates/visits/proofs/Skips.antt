@@ -13,8 +13,8 @@ use Rattle.rules.specs.DeclIdentifiers.{fieldReference}
 use Rattle.rules.specs.declared.Record.{Record}
 use Rattle.rules.specs.declared.Reference.the-variants.{Nowhere}
 use Rattle.table.proofs.Searches.{false-true, and-true}
-use Rattle.order.specs.Contract.{memberAt, refers, refersNowhere, Skipped}
-use Rattle.order.proofs.Bounds.{member-below, fields-one}
+use Rattle.visits.specs.Contract.{memberAt, refers, refersNowhere, Skipped}
+use Rattle.visits.proofs.Bounds.{member-below, fields-one}
 
 module _ (rs : List Record) where
   nowhere : (p : ℕ) → refers (at rs p .kind) ≡ false → fieldReference rs p ≡ Nowhere

@@ -1,7 +1,7 @@
--- `order::member_at` meets its contract. Assumes nothing.
+-- `visits::member_at` meets its contract. Assumes nothing.
 use borrow.Author.Needs.{needs}
-use Rattle.order.proofs.member_at.Statement.{statement}
-use Rattle.order.proofs.member_at.Tie as tie
+use Rattle.visits.proofs.member_at.Statement.{statement}
+use Rattle.visits.proofs.member_at.Tie as tie
 
 returns : tie.Need-returns
 returns c = rw (c .count .ensures, c .before .kind .ensures)

@@ -1,8 +1,8 @@
--- `order::list` meets its contract. Assumes nothing.
+-- `visits::list` meets its contract. Assumes nothing.
 use borrow.Author.Needs.{needs}
 use mathlib.Core.Path.{refl}
-use Rattle.order.proofs.list.Statement.{statement}
-use Rattle.order.proofs.list.Tie as tie
+use Rattle.visits.proofs.list.Statement.{statement}
+use Rattle.visits.proofs.list.Tie as tie
 
 returns : tie.Need-returns
 returns c = (refl, refl, refl, refl)

@@ -1,13 +1,13 @@
--- `order::visit_all` meets its contract: the places below p are taken up, and the rest makes the whole. Assumes nothing.
+-- `visits::visit_all` meets its contract: the places below p are taken up, and the rest makes the whole. Assumes nothing.
 use borrow.Author.Needs.{needs}
 use native.Mathlib.Omega.{arith}
 use mathlib.Core.Path.{refl, sym, ap, _∙_}
 use Prim.Native.Nat.{_-_, _<_, _≤_}
 use lib.ListN.{length, length-replicate}
 use Rattle.rules.specs.Table.{decode}
-use Rattle.order.proofs.Loop.{Turn, loop-start, loop-end, loop-call, loop-turn}
-use Rattle.order.proofs.visit_all.Statement.{statement}
-use Rattle.order.proofs.visit_all.Tie as tie
+use Rattle.visits.proofs.Loop.{Turn, loop-start, loop-end, loop-call, loop-turn}
+use Rattle.visits.proofs.visit_all.Statement.{statement}
+use Rattle.visits.proofs.visit_all.Tie as tie
 
 abbrev Inv-loop : tie.InvT-loop
 Inv-loop t starts marks₀ places₀ buffer₀ n a₀ p₀ marks places buffer a p = Turn (decode t) places₀ buffer₀ marks places buffer a p

@@ -1,0 +1,4 @@
+pub mod Bounds
+pub mod Skips
+pub mod Ready
+pub mod Loop
