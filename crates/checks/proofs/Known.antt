@@ -11,7 +11,7 @@ use Rattle.repeats.specs.Marks.{Marked}
 use Rattle.repeats.specs.declared.Key.the-variants.{FieldNames, Sizes, ElementSizes}
 use Rattle.repeats.proofs.Laws.{marked-ones}
 use Rattle.size_fields.specs.SizeStarts.{SizeStarts}
-use Rattle.passes.specs.Parents.{Parents}
+use Rattle.parents.specs.Parents.{Parents}
 use Rattle.size_fields.proofs.SizeStarts.{starts-empty}
 use Rattle.checks.specs.Known.{Known}
 

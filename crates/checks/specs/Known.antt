@@ -7,7 +7,7 @@ use Rattle.names.specs.Starts.{Starts}
 use Rattle.repeats.specs.Marks.{Marked}
 use Rattle.repeats.specs.declared.Key.the-variants.{FieldNames, Sizes, ElementSizes}
 use Rattle.size_fields.specs.SizeStarts.{SizeStarts}
-use Rattle.passes.specs.Parents.{Parents}
+use Rattle.parents.specs.Parents.{Parents}
 
 -- pass k finds in marks, more and places what it asks for
 pub record Known (k : ℕ) (rs : List Record) (marks more places : List ℕ) : Type 0 where

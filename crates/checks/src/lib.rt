@@ -21,12 +21,12 @@ fn finding(pass: u8, t: &[u8], marks: &[u8], places: &[u16], p: usize) -> Findin
     ensures { λ r. ⌜ findings r ≡ passAt pass (decode (now (t .entry))) p ⌝ }
 {
     match pass {
-        1 => passes::scope::at_place(t, places, p),
-        3 => passes::field_identifiers::at_place(t, marks, p),
-        6 => passes::fixed_fields::at_place(t, places, p),
-        7 => passes::payload_fields::at_place(t, marks, p),
-        8 => passes::array_fields::at_place(t, p),
-        9 => passes::padding_fields::at_place(t, p),
+        1 => scope::at_place(t, places, p),
+        3 => field_identifiers::at_place(t, marks, p),
+        6 => fixed_fields::at_place(t, places, p),
+        7 => payload_fields::at_place(t, marks, p),
+        8 => array_fields::at_place(t, p),
+        9 => padding_fields::at_place(t, p),
         _ => Finding::Fine,
     }
 }
@@ -126,7 +126,7 @@ fn run_parents(t: &[u8], buffer: &mut [u8]) -> Tally
     let mut parents = [0u8; 4093];
     let none = [0u8; 0];
     let places = [0u16; 0];
-    passes::payload_fields::mark_parents(t, &mut parents);
+    parents::mark_parents(t, &mut parents);
     run_places(7, t, &parents, &none, &places, buffer)
 }
 
