@@ -10,9 +10,9 @@ use Rattle.names.proofs.Laws.{starts-none}
 use Rattle.repeats.specs.Marks.{Marked}
 use Rattle.repeats.specs.declared.Key.the-variants.{FieldNames, Sizes, ElementSizes}
 use Rattle.repeats.proofs.Laws.{marked-ones}
-use Rattle.size_fields.specs.SizeStarts.{SizeStarts}
+use Rattle.size_starts.specs.SizeStarts.{SizeStarts}
 use Rattle.parents.specs.Parents.{Parents}
-use Rattle.size_fields.proofs.SizeStarts.{starts-empty}
+use Rattle.size_starts.proofs.Laws.{starts-empty}
 use Rattle.checks.specs.Known.{Known}
 
 pub declared-other : (k : ℕ) → (k ≡ 1) ⊎ (k ≡ 6) → k ≡ 4 → ⊥

@@ -6,7 +6,7 @@ use Rattle.rules.specs.declared.Record.{Record}
 use Rattle.names.specs.Starts.{Starts}
 use Rattle.repeats.specs.Marks.{Marked}
 use Rattle.repeats.specs.declared.Key.the-variants.{FieldNames, Sizes, ElementSizes}
-use Rattle.size_fields.specs.SizeStarts.{SizeStarts}
+use Rattle.size_starts.specs.SizeStarts.{SizeStarts}
 use Rattle.parents.specs.Parents.{Parents}
 
 -- pass k finds in marks, more and places what it asks for

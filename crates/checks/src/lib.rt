@@ -115,7 +115,7 @@ fn run_sizes(t: &[u8], buffer: &mut [u8]) -> Tally
     let mut places = [65535u16; 1600];
     repeats::mark(t, Key::Sizes, &mut sizes);
     repeats::mark(t, Key::ElementSizes, &mut elements);
-    size_fields::starts::fill(t, &mut places);
+    size_starts::fill(t, &mut places);
     run_places(5, t, &sizes, &elements, &places, buffer)
 }
 

@@ -1,6 +1,4 @@
 // Pass 5, `check_size_fields`: repeated Size, Count and ElementSize fields, and those that name no array.
-pub mod starts;
-
 use faults::Finding;
 use kinds::is_size;
 use repeats::Key;
@@ -16,7 +14,7 @@ ghost use Rattle.rules.specs.SizeFields.{sizeCode, sizeAgain, matching, isSized
 ghost use Rattle.faults.specs.Notes.{findings};
 ghost use Rattle.repeats.specs.Marks.{Marked};
 ghost use Rattle.repeats.specs.declared.Key.the-variants.{Sizes, ElementSizes};
-ghost use Rattle.size_fields.specs.SizeStarts.{targetAt, SizeStarts};
+ghost use Rattle.size_starts.specs.SizeStarts.{targetAt, SizeStarts};
 
 // The code of a repeat, before those for missing and for no array.
 fn size_code(k: u8) -> u16

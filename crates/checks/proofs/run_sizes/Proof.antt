@@ -2,7 +2,7 @@
 use borrow.Author.Needs.{needs}
 use native.Mathlib.Omega.{arith}
 use Rattle.repeats.proofs.Laws.{marked-ones}
-use Rattle.size_fields.proofs.SizeStarts.{starts-unknown}
+use Rattle.size_starts.proofs.Laws.{starts-unknown}
 use Rattle.checks.proofs.Known.{known-sizes}
 use Rattle.checks.proofs.run_sizes.Statement.{statement}
 use Rattle.checks.proofs.run_sizes.Tie as tie

@@ -1,7 +1,7 @@
 -- `size_fields::first_match` meets its contract. Assumes nothing.
 use borrow.Author.Needs.{needs}
 use mathlib.Core.Path.{_∙_}
-use Rattle.size_fields.proofs.SizeStarts.{from-start}
+use Rattle.size_fields.proofs.Laws.{from-start}
 use Rattle.size_fields.proofs.first_match.Statement.{statement}
 use Rattle.size_fields.proofs.first_match.Tie as tie
 

@@ -1,9 +1,9 @@
--- `size_fields::starts::step` meets its contract. Assumes nothing.
+-- `size_starts::step` meets its contract. Assumes nothing.
 use borrow.Author.Needs.{needs}
 use mathlib.Core.Path.{sym, _∙_}
-use Rattle.size_fields.proofs.SizeStarts.{later-decl, later-other}
-use Rattle.size_fields.proofs.starts.step.Statement.{statement}
-use Rattle.size_fields.proofs.starts.step.Tie as tie
+use Rattle.size_starts.proofs.Laws.{later-decl, later-other}
+use Rattle.size_starts.proofs.step.Statement.{statement}
+use Rattle.size_starts.proofs.step.Tie as tie
 
 set-starts-requires : tie.Need-set-starts-requires
 set-starts-requires c κs =

@@ -1,14 +1,14 @@
--- `size_fields::starts::set_starts` meets its contract: the places below q have their starts. Assumes nothing.
+-- `size_starts::set_starts` meets its contract: the places below q have their starts. Assumes nothing.
 use borrow.Author.Needs.{needs}
 use native.Mathlib.Omega.{arith}
 use Prim.Native.Nat.{_-_, _<_}
 use mathlib.Core.Path.{_≡_, refl}
 use lib.ListN.{length}
 use Rattle.rules.specs.Table.{decode}
-use Rattle.size_fields.specs.SizeStarts.{SizeStarts}
-use Rattle.size_fields.proofs.SizeStarts.{later-within}
-use Rattle.size_fields.proofs.starts.set_starts.Statement.{statement}
-use Rattle.size_fields.proofs.starts.set_starts.Tie as tie
+use Rattle.size_starts.specs.SizeStarts.{SizeStarts}
+use Rattle.size_starts.proofs.Laws.{later-within}
+use Rattle.size_starts.proofs.set_starts.Statement.{statement}
+use Rattle.size_starts.proofs.set_starts.Tie as tie
 
 abbrev Inv-loop : tie.InvT-loop
 Inv-loop t d e last places₀ q₀ places q = SizeStarts (decode t) places × (d < q) × (length places ≡ length places₀)

@@ -1,9 +1,9 @@
--- `size_fields::starts::name_of` meets its contract. Assumes nothing.
+-- `size_starts::name_of` meets its contract. Assumes nothing.
 use borrow.Author.Needs.{needs}
 use borrow.Author.Tests.{eq-eqb, ne-eqb}
 use mathlib.Core.Path.{refl}
-use Rattle.size_fields.proofs.starts.name_of.Statement.{statement}
-use Rattle.size_fields.proofs.starts.name_of.Tie as tie
+use Rattle.size_starts.proofs.name_of.Statement.{statement}
+use Rattle.size_starts.proofs.name_of.Tie as tie
 
 returns : tie.Need-returns
 returns c = rw (← c .before .kind .ensures, eq-eqb _ 26 (c .if1 .taken)) refl

@@ -1,14 +1,14 @@
--- `size_fields::starts::sweep` meets its contract: the searches from place p on may start as said. Assumes nothing.
+-- `size_starts::sweep` meets its contract: the searches from place p on may start as said. Assumes nothing.
 use borrow.Author.Needs.{needs}
 use native.Mathlib.Omega.{arith}
 use Prim.Native.Nat.{ℕ, _+_, _-_}
 use mathlib.Core.Path.{_≡_, refl, ap, _∙_}
 use lib.ListN.{length, length-replicate}
 use Rattle.rules.specs.Table.{decode}
-use Rattle.size_fields.specs.SizeStarts.{SizeStarts, Later}
-use Rattle.size_fields.proofs.SizeStarts.{later-none}
-use Rattle.size_fields.proofs.starts.sweep.Statement.{statement}
-use Rattle.size_fields.proofs.starts.sweep.Tie as tie
+use Rattle.size_starts.specs.SizeStarts.{SizeStarts, Later}
+use Rattle.size_starts.proofs.Laws.{later-none}
+use Rattle.size_starts.proofs.sweep.Statement.{statement}
+use Rattle.size_starts.proofs.sweep.Tie as tie
 
 abbrev Inv-loop : tie.InvT-loop
 Inv-loop t last₀ places₀ p₀ e₀ last places p e =

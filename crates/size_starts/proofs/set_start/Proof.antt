@@ -1,8 +1,8 @@
--- `size_fields::starts::set_start` meets its contract. Assumes nothing.
+-- `size_starts::set_start` meets its contract. Assumes nothing.
 use borrow.Author.Needs.{needs}
-use Rattle.size_fields.proofs.SizeStarts.{starts-one}
-use Rattle.size_fields.proofs.starts.set_start.Statement.{statement}
-use Rattle.size_fields.proofs.starts.set_start.Tie as tie
+use Rattle.size_starts.proofs.Laws.{starts-one}
+use Rattle.size_starts.proofs.set_start.Statement.{statement}
+use Rattle.size_starts.proofs.set_start.Tie as tie
 
 returns : tie.Need-returns
 returns c =

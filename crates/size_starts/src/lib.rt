@@ -8,7 +8,7 @@ ghost use lib.ListN.{length, replicate};
 ghost use Rattle.rules.specs.Kinds.{isDecl};
 ghost use Rattle.rules.specs.Table.{decode, at};
 ghost use Rattle.rules.specs.Places.{firstFrom, firstWithin};
-ghost use Rattle.size_fields.specs.SizeStarts.{targetAt, SizeStarts, nameOf, startFor, Later};
+ghost use Rattle.size_starts.specs.SizeStarts.{targetAt, SizeStarts, nameOf, startFor, Later};
 
 // The only name by which a size can mean the record at p.
 fn name_of(t: &[u8], p: usize) -> u16

@@ -1,11 +1,11 @@
--- `size_fields::starts::start_for` meets its contract. Assumes nothing.
+-- `size_starts::start_for` meets its contract. Assumes nothing.
 use borrow.Author.Needs.{needs}
 use native.Mathlib.Omega.{arith}
 use Prim.Native.Nat.{_%_}
 use denote.Ref.{now}
-use Rattle.size_fields.proofs.SizeStarts.{start-before, start-at-end}
-use Rattle.size_fields.proofs.starts.start_for.Statement.{statement}
-use Rattle.size_fields.proofs.starts.start_for.Tie as tie
+use Rattle.size_starts.proofs.Laws.{start-before, start-at-end}
+use Rattle.size_starts.proofs.start_for.Statement.{statement}
+use Rattle.size_starts.proofs.start_for.Tie as tie
 
 cast-if1 : tie.Need-cast-if1
 cast-if1 c = omega (arith, c .shared-slice-known .given (c .before .args .name % 4093))

@@ -21,7 +21,7 @@ use Rattle.rules.specs.declared.Target.the-variants.{Decl}
 use Rattle.table.proofs.Laws.{up-miss}
 use Rattle.table.proofs.Searches.{and-false, nearest-is}
 use Rattle.repeats.proofs.Laws.{same-default}
-use Rattle.size_fields.specs.SizeStarts.{targetAt, SizeStarts, nameOf, startFor, Later}
+use Rattle.size_starts.specs.SizeStarts.{targetAt, SizeStarts, nameOf, startFor, Later}
 
 -- ---- nothing known
 
@@ -39,10 +39,6 @@ pub starts-empty : (rs : List Record) → SizeStarts rs []
 starts-empty rs = record { skips = λ p h. absurd (h refl) }
 
 -- ---- one place known
-
-pub from-start : (rs : List Record) (places : List ℕ) (x : Target) (s p : ℕ) → SizeStarts rs places → x ≡ targetAt rs p → s ≡ getD places p 65535
-    → (s ≡ 65535 → ⊥) → firstFrom rs x s ≡ firstWithin rs x p
-from-start rs places x s p w e g h = rw (e, g) (sym (w .skips p (λ z. h (g ∙ z))))
 
 pub starts-one : (rs : List Record) (places : List ℕ) (q s : ℕ) → q < length places → SizeStarts rs places
     → firstWithin rs (targetAt rs q) q ≡ firstFrom rs (targetAt rs q) s → SizeStarts rs (set places q s)
