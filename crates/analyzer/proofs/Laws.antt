@@ -167,7 +167,7 @@ module _ (rs : List Record) (m : ℕ) {x : Inlining} (e : x ≡ inlining m (inli
   unfolding Wrote
   told-swollen h f = reply-swollen m (inlined rs) t f (sym e ∙ h)
 
-  pub told-short : x ≡ inlinings.NoRoom → Wrote m rs t t Short
+  pub told-short : x ≡ inlinings.BufferShort → Wrote m rs t t Short
   unfolding Wrote
   told-short h = (refl, go (decLt m 64000))
     where

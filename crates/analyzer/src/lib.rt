@@ -27,7 +27,7 @@ fn write_table(listed: &[u8], expanded: &mut [u8], table: &mut [u8]) -> Written
 {
     match groups::inline_groups(listed, expanded) {
         Inlining::Swollen => Written::Done(Reply::Swollen),
-        Inlining::NoRoom => Written::Short,
+        Inlining::BufferShort => Written::Short,
         Inlining::Unfit(key) => Written::Done(Reply::Unfit(key)),
         Inlining::Inlined(n) => {
             let end = 40 * n;

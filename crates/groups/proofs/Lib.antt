@@ -1,5 +1,3 @@
-pub mod Expands
-pub mod Totals
 pub mod Wholes
 pub mod Codec
 pub mod ReadBack

@@ -162,7 +162,7 @@ module _ (rs : List Record) (ok : (p : ℕ) → Fits (at rs p)) where
 
 unfoldable pub Replied : ℕ → List Inlined → List ℕ → List ℕ → Inlining → Type 0
 Replied m xs t f inlinings.Swollen = answered reply.Swollen t f ≡ bySize xs t f
-Replied m xs t f inlinings.NoRoom = (length xs ≤ 1600) × (m < 40 * length xs)
+Replied m xs t f inlinings.BufferShort = (length xs ≤ 1600) × (m < 40 * length xs)
 Replied m xs t f (inlinings.Unfit k) = answered (reply.Unfit k) t f ≡ bySize xs t f
 Replied m xs t f (inlinings.Inlined n) =
     (n ≤ 1600) × (n ≡ length xs) × (40 * n ≤ m) × (flagged (map recordOf xs) t f ≡ bySize xs t f)
@@ -195,9 +195,9 @@ module _ (m : ℕ) (xs : List Inlined) (t f : List ℕ) where
   reply-inlined n e = let r : Replied m xs t f (inlinings.Inlined n) = rw e at replied in r .3
 
 -- a buffer for 1,600 records is long enough
-pub enough-room : (m : ℕ) (xs : List Inlined) → 64000 ≤ m → ¬ (inlining m xs ≡ inlinings.NoRoom)
+pub enough-room : (m : ℕ) (xs : List Inlined) → 64000 ≤ m → ¬ (inlining m xs ≡ inlinings.BufferShort)
 unfolding Replied
-enough-room m xs h e = let r : Replied m xs [] [] inlinings.NoRoom = rw e at (replied m xs [] []) in omega (arith, r .0, r .1)
+enough-room m xs h e = let r : Replied m xs [] [] inlinings.BufferShort = rw e at (replied m xs [] []) in omega (arith, r .0, r .1)
 
 -- ---- where the answer is a number of records, they stand at the start of the buffer
 

@@ -1,2 +1,1 @@
 pub mod Inlinings
-pub mod Outputs

@@ -1,6 +1,6 @@
 -- `groups::answer` meets its contract. Assumes nothing.
 use borrow.Author.Needs.{needs}
-use Rattle.groups.specs.Outputs.{byFit}
+use Rattle.groups.specs.Inlinings.{byFit}
 use Rattle.groups.proofs.answer.Statement.{statement}
 use Rattle.groups.proofs.answer.Tie as tie
 

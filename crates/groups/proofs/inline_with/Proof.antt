@@ -1,7 +1,7 @@
 -- `groups::inline_with` meets its contract: too many records, too few bytes for them, or the inlined table. Assumes nothing.
 use borrow.Author.Needs.{needs}
 use denote.Ref.{now}
-use Rattle.groups.proofs.Wholes.{ret-swollen, ret-no-room, ret-fits}
+use Rattle.groups.proofs.Wholes.{ret-swollen, ret-buffer-short, ret-fits}
 use Rattle.groups.proofs.inline_with.Statement.{statement}
 use Rattle.groups.proofs.inline_with.Tie as tie
 
@@ -19,7 +19,7 @@ returns-2 c =
     let r = m .before .before .before .before .before in
     let s = r .before .before .before .before .before .before .before in
     let e = i .before .total .ensures in
-    ret-no-room (s .pre .1) (r .resolve .ensures) (m .measure .ensures) (rw e at (i .if1 .left)) (now (s .args .out)) (rw e at (c .if2 .taken))
+    ret-buffer-short (s .pre .1) (r .resolve .ensures) (m .measure .ensures) (rw e at (i .if1 .left)) (now (s .args .out)) (rw e at (c .if2 .taken))
 
 write-all-requires : tie.Need-write-all-requires
 write-all-requires c κs =

@@ -20,9 +20,9 @@ use Rattle.rules.specs.declared.Inlined.{Inlined}
 use Rattle.rules.specs.declared.Found.the-variants.{At}
 use Rattle.rules.specs.declared.Target.the-variants.{Decl}
 use Rattle.order.specs.GroupsFirst.{GroupsFirst}
-use Rattle.groups.specs.declared.Progress.{Progress}
+use Rattle.inlined_table.specs.declared.Progress.{Progress}
 use Rattle.group_sizes.specs.Sizes.{Resolved, sizeAt, fieldsSize, sizeFrom, Sized}
-use Rattle.groups.specs.Outputs.{Output, output, added, addedAll, Ready, Expanded}
+use Rattle.inlined_table.specs.Outputs.{Output, output, added, addedAll, Ready, Expanded}
 use Rattle.table.proofs.Laws.{at-inj, left-suc, left-none}
 use Rattle.table.proofs.Searches.{false-true}
 use Rattle.group_sizes.proofs.Resolves.{named-in, named-declares, group-before}

@@ -1,4 +1,4 @@
--- `groups::write_all` meets its contract: what the records below d become is written. Assumes nothing.
+-- `inlined_table::write_all` meets its contract: what the records below d become is written. Assumes nothing.
 use borrow.Author.Needs.{needs}
 use native.Mathlib.Omega.{arith}
 use mathlib.Core.Path.{_≡_, sym, _∙_}
@@ -8,9 +8,9 @@ use denote.Ref.{now}
 use lib.ListN.{length}
 use Rattle.rules.specs.Table.{decode, at}
 use Rattle.rules.specs.InlineGroups.{isKept}
-use Rattle.groups.proofs.Wholes.{added-kept, Writing, write-start, write-other, call-first, call-rest, write-next, write-end}
-use Rattle.groups.proofs.write_all.Statement.{statement}
-use Rattle.groups.proofs.write_all.Tie as tie
+use Rattle.inlined_table.proofs.Loop.{added-kept, Writing, write-start, write-other, call-first, call-rest, write-next, write-end}
+use Rattle.inlined_table.proofs.write_all.Statement.{statement}
+use Rattle.inlined_table.proofs.write_all.Tie as tie
 
 abbrev Inv-loop : tie.InvT-loop
 Inv-loop t targets sizes env₀ out₀ end s₀ d₀ env out s d = Writing (decode t) sizes env₀ out₀ env out s d × (d ≤ end) × (end ≡ length (decode t))

@@ -1,8 +1,8 @@
--- `groups::judge` meets its contract. Assumes nothing.
+-- `inlined_table::judge` meets its contract. Assumes nothing.
 use borrow.Author.Needs.{needs}
-use Rattle.groups.specs.Outputs.{judged}
-use Rattle.groups.proofs.judge.Statement.{statement}
-use Rattle.groups.proofs.judge.Tie as tie
+use Rattle.inlined_table.specs.Outputs.{judged}
+use Rattle.inlined_table.proofs.judge.Statement.{statement}
+use Rattle.inlined_table.proofs.judge.Tie as tie
 
 returns : tie.Need-returns
 unfolding judged

@@ -15,11 +15,9 @@ use Rattle.rules.specs.declared.Inlined.{Inlined}
 use Rattle.rules.specs.declared.Found.the-variants.{At}
 use Rattle.rules.specs.declared.Target.the-variants.{Decl}
 use Rattle.order.specs.GroupsFirst.{GroupsFirst}
-use Rattle.groups.specs.declared.Progress.{Progress}
-use Rattle.groups.specs.declared.Fit.{Fit}
-use Rattle.groups.specs.declared.Fit.the-variants.{Fine, Unfit}
-use Rattle.groups.specs.declared.Inlining.{Inlining}
-use Rattle.groups.specs.declared.Inlining.the-variants as inlinings
+use Rattle.inlined_table.specs.declared.Progress.{Progress}
+use Rattle.inlined_table.specs.declared.Fit.{Fit}
+use Rattle.inlined_table.specs.declared.Fit.the-variants.{Fine, Unfit}
 use Rattle.group_sizes.specs.Sizes.{Resolved, Sized, totalSize}
 
 -- the first record that is not fit tells its key
@@ -48,11 +46,6 @@ addedAll o (x ∷ xs) = addedAll (added o x) xs
 -- nothing written yet
 abbrev pub empty : Progress
 empty = record { count = 0; fit = Fine }
-
--- the answer once all is written
-unfoldable pub byFit : ℕ → Fit → Inlining
-byFit n Fine = inlinings.Inlined n
-byFit n (Unfit k) = inlinings.Unfit k
 
 -- what the whole table needs, with its targets and sizes known
 pub record Room (rs : List Record) (targets sizes env out : List ℕ) : Type 0 where

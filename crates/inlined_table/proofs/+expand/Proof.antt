@@ -1,4 +1,4 @@
--- `groups::expand` meets its contract: it calls itself on groups that stand before its declaration, whose place is the measure.
+-- `inlined_table::expand` meets its contract: it calls itself on groups that stand before its declaration, whose place is the measure.
 -- The laws are in Expands. Assumes nothing.
 use borrow.Author.Needs.{needs}
 use borrow.Author.Tests.{not-true, not-false}
@@ -13,11 +13,11 @@ use borrow.Fn.Kinds.{In}
 use borrow.Fn.PlainCycle.{Measures, is, falls, and}
 use Rattle.rules.specs.Table.{decode}
 use Rattle.group_sizes.proofs.Fields.{Seen, seen-flag, seen-group, seen-other, seen-bound}
-use Rattle.groups.proofs.Expands.{Walking, added-record, walk-start, walk-end, env-stack, group-in, call-push, turn-empty, call-expand, turn-group, turn-lost, call-add, turn-one}
-use Rattle.groups.proofs.expand.Reads as expand
-use Rattle.groups.proofs.expand.Kinds as expand-kinds
-use Rattle.groups.proofs.+expand.Lts-expand as expand-lts
-use Rattle.groups.proofs.add.Reads as add-reads
+use Rattle.inlined_table.proofs.Expands.{Walking, added-record, walk-start, walk-end, env-stack, group-in, call-push, turn-empty, call-expand, turn-group, turn-lost, call-add, turn-one}
+use Rattle.inlined_table.proofs.expand.Reads as expand
+use Rattle.inlined_table.proofs.expand.Kinds as expand-kinds
+use Rattle.inlined_table.proofs.+expand.Lts-expand as expand-lts
+use Rattle.inlined_table.proofs.add.Reads as add-reads
 use Rattle.constraints.proofs.inlined_record.Reads as inlined-record-reads
 use Rattle.constraints.proofs.is_constraint_or_condition.Reads as is-constraint-or-condition-reads
 use Rattle.constraints.proofs.push_constraints.Reads as push-constraints-reads
@@ -25,8 +25,8 @@ use Rattle.table.proofs.count.Reads as count-reads
 use Rattle.table.proofs.kind.Reads as kind-reads
 use Rattle.kinds.proofs.is_decl.Reads as is-decl-reads
 use Rattle.table.proofs.record.Reads as record-reads
-use Rattle.groups.proofs.+expand.{statement}
-use Rattle.groups.proofs.+expand.Tie.{close}
+use Rattle.inlined_table.proofs.+expand.{statement}
+use Rattle.inlined_table.proofs.+expand.Tie.{close}
 
 abbrev μ-expand : Measures 5 expand-kinds.ps ℕ
 μ-expand κs a = a .1 .1 .1 .0

@@ -1,8 +1,8 @@
--- `groups::add` meets its contract. Assumes nothing.
+-- `inlined_table::add` meets its contract. Assumes nothing.
 use borrow.Author.Needs.{needs}
-use Rattle.groups.specs.Outputs.{added}
-use Rattle.groups.proofs.add.Statement.{statement}
-use Rattle.groups.proofs.add.Tie as tie
+use Rattle.inlined_table.specs.Outputs.{added}
+use Rattle.inlined_table.proofs.add.Statement.{statement}
+use Rattle.inlined_table.proofs.add.Tie as tie
 
 returns : tie.Need-returns
 unfolding added

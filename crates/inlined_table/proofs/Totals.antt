@@ -15,7 +15,7 @@ use Rattle.rules.specs.declared.Record.{Record}
 use Rattle.table.proofs.Searches.{and-true}
 use Rattle.order.specs.GroupsFirst.{GroupsFirst}
 use Rattle.group_sizes.specs.Sizes.{Resolved, totalSize, Sized}
-use Rattle.groups.proofs.Expands.{expand-size, min-sum}
+use Rattle.inlined_table.proofs.Expands.{expand-size, min-sum}
 
 pub total-rises : (sizes : List ℕ) (rs : List Record) (d n : ℕ) → d ≤ n → totalSize sizes rs d ≤ totalSize sizes rs n
 unfolding totalSize
