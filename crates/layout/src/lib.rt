@@ -92,7 +92,7 @@ fn spare_zero(t: &[u8], i: usize) -> bool
 {
     (numbers::number2(t, i + 26) == 0)
         & ((numbers::number2(t, i + 30) == 0)
-            & ((numbers::number2(t, i + 34) == 0) & (table::number4(t, i + 36) == 0)))
+            & ((numbers::number2(t, i + 34) == 0) & (numbers::number4(t, i + 36) == 0)))
 }
 
 // Whether the record at p breaks neither its row nor its place.

@@ -24,7 +24,7 @@ use Rattle.rules.specs.declared.Found.the-variants.{At, Nothing}
 use Rattle.rules.specs.declared.Layout.{Layout}
 use Rattle.rules.specs.declared.Layout.the-variants as layouts
 use Rattle.rules.specs.declared.Reply.the-variants.{Swollen, Overlisted, NoRoom, Accepted}
-use Rattle.lines.specs.Appended.{recordsBehind, Whole}
+use Rattle.lines.specs.Whole.{recordsBehind, Whole}
 
 -- what is written from the start on fits, and is what stands there
 written-long : (b s : List ℕ) → (length s ≤ length (written b 0 s)) × (length b ≤ length (written b 0 s))

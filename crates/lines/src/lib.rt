@@ -4,111 +4,20 @@ use rules::Fault;
 use rules::Record;
 use rules::Reply;
 ghost use mathlib.Core.Path.{_≡_};
-ghost use mathlib.Core.List.{[], _∷_, _++_};
 ghost use Prim.Native.Nat.{_+_, _*_, _≤_, min};
 ghost use lib.ListN.{length};
 ghost use Rattle.rules.specs.Bytes.{written};
 ghost use Rattle.rules.specs.Faults.{faultAt, faultRoom};
 ghost use Rattle.rules.specs.Replies.{numbered, answered};
-ghost use Rattle.rules.specs.Printed.{decimal, listing, line, replyLine, recordLine, faultLine, recordLines, faultLines, detail, printed};
-ghost use Rattle.lines.specs.Appended.{Appended, Whole};
-
-// The decimal digits of x.
-fn append_digits(text: &mut [u8], at: usize, x: u64) -> usize
-    requires { ⌜ at + 20 ≤ length (now text) ⌝ }
-    ensures { λ r. ⌜ Appended (now (text .entry)) at (decimal x) (now (text .exit)) r ⌝ }
-{
-    if x < 10 {
-        text[at] = 48 + (x as u8);
-        return at + 1;
-    }
-    let p = append_digits(text, at, x / 10);
-    text[p] = 48 + ((x % 10) as u8);
-    p + 1
-}
-
-// Numbers, each behind a blank.
-fn append_numbers(text: &mut [u8], at: usize, ns: &[u64]) -> usize
-    requires { ⌜ at + 21 * length (now ns) ≤ length (now text) ⌝ }
-    ensures { λ r. ⌜ Appended (now (text .entry)) at (listing (now (ns .entry))) (now (text .exit)) r ⌝ }
-{
-    let mut p = at;
-    let mut i = 0;
-    while i < ns.len() {
-        text[p] = b' ';
-        p = append_digits(text, p + 1, ns[i]);
-        i += 1;
-    }
-    p
-}
-
-// Numbers and a newline: what stands in a line behind its first word or number.
-fn append_rest(text: &mut [u8], at: usize, ns: &[u64]) -> usize
-    requires { ⌜ at + 21 * length (now ns) + 1 ≤ length (now text) ⌝ }
-    ensures { λ r. ⌜ Appended (now (text .entry)) at (listing (now (ns .entry)) ++ 10 ∷ []) (now (text .exit)) r ⌝ }
-{
-    let p = append_numbers(text, at, ns);
-    text[p] = b'\n';
-    p + 1
-}
-
-// A line of a word and numbers.
-fn append_line(text: &mut [u8], at: usize, word: &[u8], ns: &[u64]) -> usize
-    requires { ⌜ at + length (now word) + 21 * length (now ns) + 1 ≤ length (now text) ⌝ }
-    ensures { λ r. ⌜ Appended (now (text .entry)) at (line (now (word .entry)) (now (ns .entry))) (now (text .exit)) r ⌝ }
-{
-    store::write(text, at, word);
-    append_rest(text, at + word.len(), ns)
-}
-
-// A line of a word alone.
-fn append_word(text: &mut [u8], at: usize, word: &[u8]) -> usize
-    requires { ⌜ at + length (now word) + 1 ≤ length (now text) ⌝ }
-    ensures { λ r. ⌜ Appended (now (text .entry)) at (line (now (word .entry)) []) (now (text .exit)) r ⌝ }
-{
-    store::write(text, at, word);
-    let end = at + word.len();
-    text[end] = b'\n';
-    end + 1
-}
-
-// A line of a word and a number.
-fn append_valued(text: &mut [u8], at: usize, word: &[u8], x: u64) -> usize
-    requires { ⌜ at + length (now word) + 22 ≤ length (now text) ⌝ }
-    ensures { λ r. ⌜ Appended (now (text .entry)) at (line (now (word .entry)) (x ∷ [])) (now (text .exit)) r ⌝ }
-{
-    let ns = [x];
-    append_line(text, at, word, &ns)
-}
-
-// The reply and its numbers.
-fn append_reply(text: &mut [u8], at: usize, reply: Reply) -> usize
-    requires { ⌜ at + 60 ≤ length (now text) ⌝ }
-    ensures { λ r. ⌜ Appended (now (text .entry)) at (replyLine (numbered reply)) (now (text .exit)) r ⌝ }
-{
-    match reply {
-        Reply::Uneven => append_word(text, at, b"Uneven"),
-        Reply::TooLong => append_word(text, at, b"TooLong"),
-        Reply::Malformed(place) => append_valued(text, at, b"Malformed", place as u64),
-        Reply::Faulty(pass, total) => {
-            let ns = [pass as u64, total as u64];
-            append_line(text, at, b"Faulty", &ns)
-        }
-        Reply::Swollen => append_word(text, at, b"Swollen"),
-        Reply::Unfit(key) => append_valued(text, at, b"Unfit", key.0 as u64),
-        Reply::Loose(key) => append_valued(text, at, b"Loose", key.0 as u64),
-        Reply::Overlisted => append_word(text, at, b"Overlisted"),
-        Reply::NoRoom(needed) => append_valued(text, at, b"NoRoom", needed as u64),
-        Reply::Accepted(records) => append_valued(text, at, b"Accepted", records as u64),
-    }
-}
+ghost use Rattle.rules.specs.Printed.{recordLine, faultLine, recordLines, faultLines, detail, printed};
+ghost use Rattle.text.specs.Appended.{Appended};
+ghost use Rattle.lines.specs.Whole.{Whole};
 
 // A record's line: ten numbers.
 fn append_record(text: &mut [u8], at: usize, r: Record) -> usize
     requires { ⌜ at + 210 ≤ length (now text) ⌝ }
     ensures { λ p. ⌜ Appended (now (text .entry)) at (recordLine r) (now (text .exit)) p ⌝ }
 {
-    let p = append_digits(text, at, r.kind as u64);
     let ns = [
         r.marks as u64,
         r.name as u64,
@@ -120,7 +29,7 @@ fn append_record(text: &mut [u8], at: usize, r: Record) -> usize
         r.start as u64,
         r.end as u64,
     ];
-    append_rest(text, p, &ns)
+    text::append_list(text, at, r.kind as u64, &ns)
 }
 
 // A fault's line: its code and its primary location, and the secondary one where there is one.
@@ -128,13 +37,12 @@ fn append_fault(text: &mut [u8], at: usize, f: Fault) -> usize
     requires { ⌜ at + 105 ≤ length (now text) ⌝ }
     ensures { λ r. ⌜ Appended (now (text .entry)) at (faultLine f) (now (text .exit)) r ⌝ }
 {
-    let p = append_digits(text, at, f.code as u64);
     if f.secondary == 0 {
         let ns = [f.start as u64, f.end as u64];
-        return append_rest(text, p, &ns);
+        return text::append_list(text, at, f.code as u64, &ns);
     }
     let ns = [f.start as u64, f.end as u64, f.start2 as u64, f.end2 as u64];
-    append_rest(text, p, &ns)
+    text::append_list(text, at, f.code as u64, &ns)
 }
 
 // The fault in the 20 bytes from i.
@@ -208,6 +116,6 @@ pub fn append_answer(text: &mut [u8], reply: Reply, table: &[u8], faults: &[u8])
     requires { ⌜ (340000 ≤ length (now text)) × (length (now table) ≤ 64000) × (length (now faults) ≤ 64000) × Whole (answered reply (now table) (now faults)) ⌝ }
     ensures { λ r. ⌜ (now (text .exit) ≡ written (now (text .entry)) 0 (printed (answered reply (now (table .entry)) (now (faults .entry))))) × (r ≡ length (printed (answered reply (now (table .entry)) (now (faults .entry))))) ⌝ }
 {
-    let p = append_reply(text, 0, reply);
+    let p = replies::append_reply(text, 0, reply);
     append_detail(text, p, reply, table, faults)
 }

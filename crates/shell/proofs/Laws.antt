@@ -22,7 +22,7 @@ use Rattle.rules.specs.declared.Reply.{Reply}
 use Rattle.rules.specs.declared.Reply.the-variants.{Uneven, TooLong}
 use Rattle.store.proofs.Laws.{length-written}
 use Rattle.table.proofs.Laws.{length-decode}
-use Rattle.lines.specs.Appended.{Whole}
+use Rattle.lines.specs.Whole.{Whole}
 use Rattle.lines.proofs.Answers.{answer-whole}
 use Rattle.shell.specs.Inputs.{shortLength, StandsFor}
 

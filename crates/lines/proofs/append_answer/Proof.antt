@@ -4,7 +4,8 @@ use native.Mathlib.Omega.{arith}
 use native.Mathlib.Nat.{zero-add}
 use mathlib.Core.Path.{_∙_}
 use Rattle.rules.specs.Printed.{printed}
-use Rattle.lines.proofs.Laws.{append-then, length-reply}
+use Rattle.text.proofs.Laws.{append-then}
+use Rattle.replies.proofs.Laws.{length-reply}
 use Rattle.lines.proofs.append_answer.Statement.{statement}
 use Rattle.lines.proofs.append_answer.Tie as tie
 

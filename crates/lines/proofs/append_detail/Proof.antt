@@ -3,7 +3,8 @@ use borrow.Author.Needs.{needs}
 use native.Mathlib.Omega.{arith}
 use Rattle.rules.specs.Replies.{numbered}
 use Rattle.rules.specs.Printed.{detail}
-use Rattle.lines.proofs.Laws.{append-none, no-detail, records-behind}
+use Rattle.text.proofs.Laws.{append-none}
+use Rattle.lines.proofs.Laws.{no-detail, records-behind}
 use Rattle.lines.proofs.append_detail.Statement.{statement}
 use Rattle.lines.proofs.append_detail.Tie as tie
 

@@ -7,7 +7,7 @@ use lib.ListN.{length}
 use denote.Ref.{now}
 use Rattle.rules.specs.Printed.{recordLine, recordLines}
 use Rattle.table.proofs.Laws.{length-decode, at-decode}
-use Rattle.lines.specs.Appended.{Appended}
+use Rattle.text.specs.Appended.{Appended}
 use Rattle.lines.proofs.Laws.{recordLineAt, length-record, each-none, line-fits, append-each, each-done}
 use Rattle.lines.proofs.append_records.Statement.{statement}
 use Rattle.lines.proofs.append_records.Tie as tie

@@ -1,15 +1,15 @@
--- `lines::append_digits` meets its contract: at each call the number falls to its tenth. Assumes nothing.
+-- `text::append_digits` meets its contract: at each call the number falls to its tenth. Assumes nothing.
 use borrow.Author.Needs.{needs}
 use native.Mathlib.Omega.{arith}
 use Prim.Native.Nat.{ℕ, _<_}
 use borrow.Fn.Kinds.{In}
 use borrow.Fn.PlainCycle.{Measures, is, falls, and}
-use Rattle.lines.proofs.Laws.{append-digit, digit-fits, append-last}
-use Rattle.lines.proofs.append_digits.Reads as append-digits
-use Rattle.lines.proofs.append_digits.Kinds as append-digits-kinds
-use Rattle.lines.proofs.+append_digits.Lts-append_digits as append-digits-lts
-use Rattle.lines.proofs.+append_digits.{statement}
-use Rattle.lines.proofs.+append_digits.Tie.{close}
+use Rattle.text.proofs.Laws.{append-digit, digit-fits, append-last}
+use Rattle.text.proofs.append_digits.Reads as append-digits
+use Rattle.text.proofs.append_digits.Kinds as append-digits-kinds
+use Rattle.text.proofs.+append_digits.Lts-append_digits as append-digits-lts
+use Rattle.text.proofs.+append_digits.{statement}
+use Rattle.text.proofs.+append_digits.Tie.{close}
 
 abbrev μ-append-digits : Measures 1 append-digits-kinds.ps ℕ
 μ-append-digits κs a = a .1 .1 .0
@@ -37,14 +37,14 @@ append-digits-slice-write-text-2 : (t : ℕ) → append-digits-lts.Need-slice-wr
   append-digits.Post,
 ) (append-digits-at t) append-digits.Post
 append-digits-slice-write-text-2 t c =
-    digit-fits (c .before .before .before .before .before .before .args .x) (search needs) (search needs) (search needs) (c .before .before .append-digits .ensures)
+    digit-fits (omega arith) (search needs) (search needs) (c .before .before .append-digits .ensures)
 
 append-digits-add-result-2 : (t : ℕ) → append-digits-lts.Need-add-result-2 (
   append-digits-below t,
   append-digits.Post,
 ) (append-digits-at t) append-digits.Post
 append-digits-add-result-2 t c =
-    omega (arith, digit-fits (c .before .before .before .before .before .before .args .x) (search needs) (search needs) (search needs) (c .before .before .append-digits .ensures))
+    omega (arith, digit-fits (omega arith) (search needs) (search needs) (c .before .before .append-digits .ensures))
 
 append-digits-returns-2 : (t : ℕ) → append-digits-lts.Need-returns-2 (
   append-digits-below t,

@@ -1,12 +1,12 @@
--- `lines::append_rest` meets its contract. Assumes nothing.
+-- `text::append_rest` meets its contract. Assumes nothing.
 use borrow.Author.Needs.{needs}
 use native.Mathlib.Omega.{arith}
 use mathlib.Core.List.{[], _∷_}
 use denote.Ref.{now}
 use Rattle.rules.specs.Printed.{listing}
-use Rattle.lines.proofs.Laws.{append-byte, append-then, length-listing}
-use Rattle.lines.proofs.append_rest.Statement.{statement}
-use Rattle.lines.proofs.append_rest.Tie as tie
+use Rattle.text.proofs.Laws.{append-byte, append-then, length-listing}
+use Rattle.text.proofs.append_rest.Statement.{statement}
+use Rattle.text.proofs.append_rest.Tie as tie
 
 slice-write-text : tie.Need-slice-write-text
 slice-write-text c =

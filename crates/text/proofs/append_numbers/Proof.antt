@@ -1,14 +1,14 @@
--- `lines::append_numbers` meets its contract: after i turns the first i numbers are appended. Assumes nothing.
+-- `text::append_numbers` meets its contract: after i turns the first i numbers are appended. Assumes nothing.
 use borrow.Author.Needs.{needs}
 use native.Mathlib.Omega.{arith}
 use Prim.Native.Nat.{_-_}
 use mathlib.Core.Path.{_≡_, refl}
 use lib.ListN.{length, take, length-set}
 use Rattle.rules.specs.Printed.{listing}
-use Rattle.lines.specs.Appended.{Appended}
-use Rattle.lines.proofs.Laws.{listing-none, blank-fits, append-listed, listing-done}
-use Rattle.lines.proofs.append_numbers.Statement.{statement}
-use Rattle.lines.proofs.append_numbers.Tie as tie
+use Rattle.text.specs.Appended.{Appended}
+use Rattle.text.proofs.Laws.{listing-none, blank-fits, append-listed, listing-done}
+use Rattle.text.proofs.append_numbers.Statement.{statement}
+use Rattle.text.proofs.append_numbers.Tie as tie
 
 abbrev Inv-loop : tie.InvT-loop
 Inv-loop text₀ at ns p₀ i₀ text p i = Appended text₀ at (listing (take i ns)) text p × (length text ≡ length text₀)

@@ -1,9 +1,9 @@
--- `lines::append_line` meets its contract. Assumes nothing.
+-- `text::append_line` meets its contract. Assumes nothing.
 use borrow.Author.Needs.{needs}
 use denote.Ref.{now}
-use Rattle.lines.proofs.Laws.{append-bytes, append-line}
-use Rattle.lines.proofs.append_line.Statement.{statement}
-use Rattle.lines.proofs.append_line.Tie as tie
+use Rattle.text.proofs.Laws.{append-bytes, append-line}
+use Rattle.text.proofs.append_line.Statement.{statement}
+use Rattle.text.proofs.append_line.Tie as tie
 
 returns : tie.Need-returns
 returns c =
