@@ -7,9 +7,9 @@ use native.Mathlib.Omega.{arith}
 use Rattle.rules.specs.declared.Record.{Record}
 use Rattle.names.specs.Starts.{Starts}
 use Rattle.names.proofs.Laws.{starts-none}
-use Rattle.repeats.specs.Marks.{Marked}
-use Rattle.repeats.specs.declared.Key.the-variants.{FieldNames, Sizes, ElementSizes}
-use Rattle.repeats.proofs.Laws.{marked-ones}
+use Rattle.marks.specs.Marks.{Marked}
+use Rattle.marks.specs.declared.Key.the-variants.{FieldNames, Sizes, ElementSizes}
+use Rattle.marks.proofs.Laws.{marked-ones}
 use Rattle.size_starts.specs.SizeStarts.{SizeStarts}
 use Rattle.parents.specs.Parents.{Parents}
 use Rattle.size_starts.proofs.Laws.{starts-empty}

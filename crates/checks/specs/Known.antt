@@ -4,8 +4,8 @@ use mathlib.Core.Path.{_≡_}
 use mathlib.Core.List.{List}
 use Rattle.rules.specs.declared.Record.{Record}
 use Rattle.names.specs.Starts.{Starts}
-use Rattle.repeats.specs.Marks.{Marked}
-use Rattle.repeats.specs.declared.Key.the-variants.{FieldNames, Sizes, ElementSizes}
+use Rattle.marks.specs.Marks.{Marked}
+use Rattle.marks.specs.declared.Key.the-variants.{FieldNames, Sizes, ElementSizes}
 use Rattle.size_starts.specs.SizeStarts.{SizeStarts}
 use Rattle.parents.specs.Parents.{Parents}
 

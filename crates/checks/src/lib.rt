@@ -1,6 +1,6 @@
 // The passes that find faults place by place: pass 1, and passes 3 to 9 on the listed order.
 use faults::Finding;
-use repeats::Key;
+use marks::Key;
 use rules::Tally;
 ghost use mathlib.Core.Path.{_≡_};
 ghost use mathlib.Core.Logic.{_⊎_};
@@ -101,7 +101,7 @@ fn run_fields(t: &[u8], buffer: &mut [u8]) -> Tally
 {
     let mut marks = [1u8; 1600];
     let places = [0u16; 0];
-    repeats::mark(t, Key::FieldNames, &mut marks);
+    marks::mark(t, Key::FieldNames, &mut marks);
     run_places(3, t, &marks, &marks, &places, buffer)
 }
 
@@ -113,8 +113,8 @@ fn run_sizes(t: &[u8], buffer: &mut [u8]) -> Tally
     let mut sizes = [1u8; 1600];
     let mut elements = [1u8; 1600];
     let mut places = [65535u16; 1600];
-    repeats::mark(t, Key::Sizes, &mut sizes);
-    repeats::mark(t, Key::ElementSizes, &mut elements);
+    marks::mark(t, Key::Sizes, &mut sizes);
+    marks::mark(t, Key::ElementSizes, &mut elements);
     size_starts::fill(t, &mut places);
     run_places(5, t, &sizes, &elements, &places, buffer)
 }

@@ -1,5 +1,5 @@
 // Pass 4, `check_enum_declarations`: the tags of each enum.
-use repeats::Key;
+use marks::Key;
 use rules::Found;
 use rules::Tally;
 use rules::Target;
@@ -13,9 +13,9 @@ ghost use Rattle.rules.specs.Places.{memberCount};
 ghost use Rattle.rules.specs.Faults.{log, logged};
 ghost use Rattle.rules.specs.EnumDeclarations.{tagsFaults, enumFaults, pass4At, pass4};
 ghost use Rattle.faults.specs.Notes.{notedAll};
-ghost use Rattle.repeats.specs.Marks.{Marked};
+ghost use Rattle.marks.specs.Marks.{Marked};
 ghost use Rattle.bounds.specs.Bounds.{Bounds};
-ghost use Rattle.repeats.specs.declared.Key.the-variants.{TagNames, TagValues};
+ghost use Rattle.marks.specs.declared.Key.the-variants.{TagNames, TagValues};
 
 // How many tags the enum at d has: those up to the next declaration.
 fn tag_count(t: &[u8], d: usize) -> usize
@@ -171,8 +171,8 @@ fn check_all(t: &[u8], buffer: &mut [u8]) -> Tally
     let mut s = [0u16; 1600];
     let mut lows = [0u64; 1600];
     let mut highs = [0u64; 1600];
-    repeats::mark(t, Key::TagNames, &mut names);
-    repeats::mark(t, Key::TagValues, &mut values);
+    marks::mark(t, Key::TagNames, &mut names);
+    marks::mark(t, Key::TagValues, &mut values);
     note_enums(t, &names, &values, &mut s, &mut lows, &mut highs, buffer)
 }
 

@@ -67,7 +67,7 @@ fn missing_payload(t: &[u8], parents: &[u8], d: usize) -> Finding
     ensures { λ r. ⌜ findings r ≡ missingPayload (decode (now (t .entry))) d (first (childWithField (decode (now (t .entry))) d) 0 (length (decode (now (t .entry))))) ⌝ }
 {
     let h = (table::name(t, d) % 4093) as usize;
-    if repeats::mark_at(parents, h) == 0 {
+    if marks::mark_at(parents, h) == 0 {
         return Finding::Fine;
     }
     if has_member(t, Target::PayloadOrDecl, d) {

@@ -1,7 +1,7 @@
 // Pass 5, `check_size_fields`: repeated Size, Count and ElementSize fields, and those that name no array.
 use faults::Finding;
 use kinds::is_size;
-use repeats::Key;
+use marks::Key;
 use repeats::again_marked;
 use rules::Found;
 use rules::Target;
@@ -12,8 +12,8 @@ ghost use Rattle.rules.specs.Table.{decode};
 ghost use Rattle.rules.specs.Places.{firstWithin};
 ghost use Rattle.rules.specs.SizeFields.{sizeCode, sizeAgain, matching, isSized, misnamed, sizeTarget};
 ghost use Rattle.faults.specs.Notes.{findings};
-ghost use Rattle.repeats.specs.Marks.{Marked};
-ghost use Rattle.repeats.specs.declared.Key.the-variants.{Sizes, ElementSizes};
+ghost use Rattle.marks.specs.Marks.{Marked};
+ghost use Rattle.marks.specs.declared.Key.the-variants.{Sizes, ElementSizes};
 ghost use Rattle.size_starts.specs.SizeStarts.{targetAt, SizeStarts};
 
 // The code of a repeat, before those for missing and for no array.

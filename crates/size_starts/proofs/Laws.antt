@@ -20,7 +20,7 @@ use Rattle.rules.specs.declared.Target.{Target}
 use Rattle.rules.specs.declared.Target.the-variants.{Decl}
 use Rattle.table.proofs.Laws.{up-miss}
 use Rattle.table.proofs.Searches.{and-false, nearest-is}
-use Rattle.repeats.proofs.Laws.{same-default}
+use Rattle.marks.proofs.Laws.{same-default}
 use Rattle.size_starts.specs.SizeStarts.{targetAt, SizeStarts, nameOf, startFor, Later}
 
 -- ---- nothing known

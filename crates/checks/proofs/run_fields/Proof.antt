@@ -1,7 +1,7 @@
 -- `checks::run_fields` meets its contract. Assumes nothing.
 use borrow.Author.Needs.{needs}
 use native.Mathlib.Omega.{arith}
-use Rattle.repeats.proofs.Laws.{marked-ones}
+use Rattle.marks.proofs.Laws.{marked-ones}
 use Rattle.checks.proofs.Known.{known-fields}
 use Rattle.checks.proofs.run_fields.Statement.{statement}
 use Rattle.checks.proofs.run_fields.Tie as tie

@@ -1,7 +1,7 @@
 -- `checks::run_sizes` meets its contract. Assumes nothing.
 use borrow.Author.Needs.{needs}
 use native.Mathlib.Omega.{arith}
-use Rattle.repeats.proofs.Laws.{marked-ones}
+use Rattle.marks.proofs.Laws.{marked-ones}
 use Rattle.size_starts.proofs.Laws.{starts-unknown}
 use Rattle.checks.proofs.Known.{known-sizes}
 use Rattle.checks.proofs.run_sizes.Statement.{statement}

@@ -1,6 +1,6 @@
 -- `enums::check_all` meets its contract: marks that are all 1 say nothing yet. Assumes nothing.
 use borrow.Author.Needs.{needs}
-use Rattle.repeats.proofs.Laws.{marked-ones}
+use Rattle.marks.proofs.Laws.{marked-ones}
 use Rattle.enums.proofs.check_all.Statement.{statement}
 use Rattle.enums.proofs.check_all.Tie as tie
 

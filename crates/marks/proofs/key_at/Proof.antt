@@ -1,9 +1,9 @@
--- `repeats::key_at` meets its contract. Assumes nothing.
+-- `marks::key_at` meets its contract. Assumes nothing.
 use borrow.Author.Needs.{needs}
 use mathlib.Core.Path.{ap}
 use Rattle.rules.specs.declared.Record.{Record}
-use Rattle.repeats.proofs.key_at.Statement.{statement}
-use Rattle.repeats.proofs.key_at.Tie as tie
+use Rattle.marks.proofs.key_at.Statement.{statement}
+use Rattle.marks.proofs.key_at.Tie as tie
 
 pub key-at-spec : {M : Type 1} → statement M
 key-at-spec =

@@ -1,7 +1,7 @@
--- `repeats::selects` meets its contract. Assumes nothing.
+-- `marks::selects` meets its contract. Assumes nothing.
 use borrow.Author.Needs.{needs}
-use Rattle.repeats.proofs.selects.Statement.{statement}
-use Rattle.repeats.proofs.selects.Tie as tie
+use Rattle.marks.proofs.selects.Statement.{statement}
+use Rattle.marks.proofs.selects.Tie as tie
 
 pub selects-spec : {M : Type 1} → statement M
 selects-spec =

@@ -1,11 +1,11 @@
--- `repeats::mark_at` meets its contract. Assumes nothing.
+-- `marks::mark_at` meets its contract. Assumes nothing.
 use borrow.Author.Needs.{needs}
 use lib.ListN.{List·getD-eq-default}
-use Rattle.repeats.proofs.Laws.{same-default}
+use Rattle.marks.proofs.Laws.{same-default}
 use mathlib.Core.Path.{sym}
 use denote.Ref.{now}
-use Rattle.repeats.proofs.mark_at.Statement.{statement}
-use Rattle.repeats.proofs.mark_at.Tie as tie
+use Rattle.marks.proofs.mark_at.Statement.{statement}
+use Rattle.marks.proofs.mark_at.Tie as tie
 
 returns : tie.Need-returns
 returns c = let s = c .before .before in same-default (now (s .args .marks)) (s .args .p) 0 1 (c .before .if1 .taken)

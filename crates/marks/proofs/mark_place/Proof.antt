@@ -1,4 +1,4 @@
--- `repeats::mark_place` meets its contract. Assumes nothing.
+-- `marks::mark_place` meets its contract. Assumes nothing.
 use borrow.Author.Needs.{needs}
 use borrow.Author.Tests.{not-true, not-false}
 use denote.Ref.{now}
@@ -6,9 +6,9 @@ use mathlib.Core.Path.{sym, _∙_}
 use Prim.Native.Nat.{ℕ, _%_, _<_}
 use lib.ListN.{length}
 use lib.Seq.{getD-set-same}
-use Rattle.repeats.proofs.Laws.{stamped-decl, stamped-other, stamped-one, new-key, set-kept, marked-one}
-use Rattle.repeats.proofs.mark_place.Statement.{statement}
-use Rattle.repeats.proofs.mark_place.Tie as tie
+use Rattle.marks.proofs.Laws.{stamped-decl, stamped-other, stamped-one, new-key, set-kept, marked-one}
+use Rattle.marks.proofs.mark_place.Statement.{statement}
+use Rattle.marks.proofs.mark_place.Tie as tie
 
 returns : tie.Need-returns
 returns c =

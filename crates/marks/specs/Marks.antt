@@ -12,8 +12,8 @@ use Rattle.rules.specs.Places.{nearest, holdsAt, foundInside}
 use Rattle.rules.specs.declared.Record.{Record}
 use Rattle.rules.specs.declared.Target.{Target}
 use Rattle.rules.specs.declared.Target.the-variants.{NameOrDecl, TagOrDecl, ValueOrDecl, SizeOrDecl, ElementSizeOrDecl}
-use Rattle.repeats.specs.declared.Key.{Key}
-use Rattle.repeats.specs.declared.Key.the-variants.{FieldNames, TagNames, TagValues, Sizes, ElementSizes}
+use Rattle.marks.specs.declared.Key.{Key}
+use Rattle.marks.specs.declared.Key.the-variants.{FieldNames, TagNames, TagValues, Sizes, ElementSizes}
 
 -- the kinds of records that have the key
 abbrev pub selects : Key → ℕ → Bool

@@ -1,13 +1,13 @@
--- `repeats::mark_places` meets its contract. Assumes nothing.
+-- `marks::mark_places` meets its contract. Assumes nothing.
 use borrow.Author.Needs.{needs}
 use Prim.Native.Nat.{_-_, _≤_}
 use mathlib.Core.Path.{_≡_, refl}
 use lib.ListN.{length}
 use Rattle.rules.specs.Table.{decode}
-use Rattle.repeats.specs.Marks.{Marked, Stamped}
-use Rattle.repeats.proofs.Laws.{stamped-start}
-use Rattle.repeats.proofs.mark_places.Statement.{statement}
-use Rattle.repeats.proofs.mark_places.Tie as tie
+use Rattle.marks.specs.Marks.{Marked, Stamped}
+use Rattle.marks.proofs.Laws.{stamped-start}
+use Rattle.marks.proofs.mark_places.Statement.{statement}
+use Rattle.marks.proofs.mark_places.Tie as tie
 
 abbrev Inv-loop : tie.InvT-loop
 Inv-loop t what n seen₀ marks₀ stamp₀ p₀ seen marks stamp p =
