@@ -7,17 +7,10 @@ use lib.ListN.{length, getD}
 use lib.Dec.{eqb}
 use Rattle.rules.specs.Choice.{if_then_else_}
 use Rattle.rules.specs.Kinds as kind
-use Rattle.rules.specs.Kinds.{is, isDecl}
+use Rattle.rules.specs.Kinds.{isDecl}
 use Rattle.rules.specs.Table.{at}
-use Rattle.rules.specs.Places.{declNamed}
 use Rattle.rules.specs.InlineGroups.{isConstraintOrCondition, isKept, afterGroup}
 use Rattle.rules.specs.declared.Record.{Record}
-use Rattle.rules.specs.declared.Found.the-variants.{At}
-
--- targets has the declaration that each group field below n names
-pub record Resolved (rs : List Record) (targets : List ℕ) (n : ℕ) : Type 0 where
-  pub long : length rs ≤ length targets
-  pub right : (p : ℕ) → p < n → is kind.groupField (at rs p) ≡ true → declNamed rs (at rs p .second) ≡ At (getD targets p 0)
 
 -- how many records a record of kind k at p becomes; bound says that it belongs to a group field
 abbrev pub sizeHere : List ℕ → List ℕ → ℕ → ℕ → Bool → ℕ

@@ -21,7 +21,8 @@ use Rattle.inlined_table.specs.declared.Fit.{Fit}
 use Rattle.inlined_table.specs.declared.Fit.the-variants.{Fine, Unfit}
 use Rattle.groups.specs.declared.Inlining.{Inlining}
 use Rattle.groups.specs.declared.Inlining.the-variants.{Swollen, BufferShort}
-use Rattle.group_sizes.specs.Sizes.{Resolved, totalSize, Sized}
+use Rattle.group_targets.specs.Targets.{Resolved}
+use Rattle.group_sizes.specs.Sizes.{totalSize, Sized}
 use Rattle.inlined_table.specs.Outputs.{Output, output, judged, added, addedAll, empty}
 use Rattle.groups.specs.Inlinings.{byUnfit, byFit, inlining, inliningBytes}
 use Rattle.inlined_table.proofs.Totals.{inlined-size}

@@ -42,7 +42,7 @@ fn inline_with(
     requires { ⌜ GroupsFirst (decode (now t)) ⌝ }
     ensures { λ r. ⌜ (r ≡ inlining (length (now (out .entry))) (inlined (decode (now (t .entry))))) × (now (out .exit) ≡ inliningBytes (now (out .entry)) (inlined (decode (now (t .entry))))) ⌝ }
 {
-    group_sizes::resolve(t, targets);
+    group_targets::resolve(t, targets);
     group_sizes::measure(t, targets, sizes);
     let n = group_sizes::total(t, sizes);
     if 1600 < n {

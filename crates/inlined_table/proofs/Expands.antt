@@ -21,11 +21,12 @@ use Rattle.rules.specs.declared.Found.the-variants.{At}
 use Rattle.rules.specs.declared.Target.the-variants.{Decl}
 use Rattle.order.specs.GroupsFirst.{GroupsFirst}
 use Rattle.inlined_table.specs.declared.Progress.{Progress}
-use Rattle.group_sizes.specs.Sizes.{Resolved, sizeAt, fieldsSize, sizeFrom, Sized}
+use Rattle.group_targets.specs.Targets.{Resolved}
+use Rattle.group_sizes.specs.Sizes.{sizeAt, fieldsSize, sizeFrom, Sized}
 use Rattle.inlined_table.specs.Outputs.{Output, output, added, addedAll, Ready, Expanded}
 use Rattle.table.proofs.Laws.{at-inj, left-suc, left-none}
 use Rattle.table.proofs.Searches.{false-true}
-use Rattle.group_sizes.proofs.Resolves.{named-in, named-declares, group-before}
+use Rattle.group_targets.proofs.Resolves.{named-in, named-declares, group-before}
 use Rattle.group_sizes.proofs.Fields.{here-start, here-next, after-start, after-next, size-next, size-end, Ends}
 
 -- what the records from p on become

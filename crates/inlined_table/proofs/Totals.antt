@@ -14,7 +14,8 @@ use Rattle.rules.specs.InlineGroups.{isKept, inlinedAt, inlined}
 use Rattle.rules.specs.declared.Record.{Record}
 use Rattle.table.proofs.Searches.{and-true}
 use Rattle.order.specs.GroupsFirst.{GroupsFirst}
-use Rattle.group_sizes.specs.Sizes.{Resolved, totalSize, Sized}
+use Rattle.group_targets.specs.Targets.{Resolved}
+use Rattle.group_sizes.specs.Sizes.{totalSize, Sized}
 use Rattle.inlined_table.proofs.Expands.{expand-size, min-sum}
 
 pub total-rises : (sizes : List ℕ) (rs : List Record) (d n : ℕ) → d ≤ n → totalSize sizes rs d ≤ totalSize sizes rs n

@@ -18,7 +18,8 @@ use Rattle.order.specs.GroupsFirst.{GroupsFirst}
 use Rattle.inlined_table.specs.declared.Progress.{Progress}
 use Rattle.inlined_table.specs.declared.Fit.{Fit}
 use Rattle.inlined_table.specs.declared.Fit.the-variants.{Fine, Unfit}
-use Rattle.group_sizes.specs.Sizes.{Resolved, Sized, totalSize}
+use Rattle.group_targets.specs.Targets.{Resolved}
+use Rattle.group_sizes.specs.Sizes.{Sized, totalSize}
 
 -- the first record that is not fit tells its key
 unfoldable pub judged : Fit → Inlined → Fit

@@ -1,4 +1,4 @@
--- `group_sizes::resolve_from` meets its contract: the group fields below p are resolved. Assumes nothing.
+-- `group_targets::resolve_from` meets its contract: the group fields below p are resolved. Assumes nothing.
 use borrow.Author.Needs.{needs}
 use native.Mathlib.Omega.{arith}
 use mathlib.Core.Path.{_≡_, refl, sym, ap, _∙_}
@@ -6,10 +6,10 @@ use Prim.Native.Nat.{_-_, _≤_}
 use lib.ListN.{length, length-set}
 use Rattle.rules.specs.Table.{decode}
 use Rattle.rules.specs.Places.{declNamed}
-use Rattle.group_sizes.specs.Sizes.{Resolved}
-use Rattle.group_sizes.proofs.Resolves.{named-in, resolve-other, resolve-next, resolve-never, resolve-end}
-use Rattle.group_sizes.proofs.resolve_from.Statement.{statement}
-use Rattle.group_sizes.proofs.resolve_from.Tie as tie
+use Rattle.group_targets.specs.Targets.{Resolved}
+use Rattle.group_targets.proofs.Resolves.{named-in, resolve-other, resolve-next, resolve-never, resolve-end}
+use Rattle.group_targets.proofs.resolve_from.Statement.{statement}
+use Rattle.group_targets.proofs.resolve_from.Tie as tie
 
 abbrev Inv-loop : tie.InvT-loop
 Inv-loop t starts a targets₀ end p₀ targets p = Resolved (decode t) targets p × (p ≤ end) × (end ≡ length (decode t)) × (length targets ≡ length targets₀)

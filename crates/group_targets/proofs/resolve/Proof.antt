@@ -1,8 +1,8 @@
--- `group_sizes::resolve` meets its contract: with no starts, every search starts at place 0. Assumes nothing.
+-- `group_targets::resolve` meets its contract: with no starts, every search starts at place 0. Assumes nothing.
 use borrow.Author.Needs.{needs}
 use mathlib.Core.Path.{refl}
-use Rattle.group_sizes.proofs.resolve.Statement.{statement}
-use Rattle.group_sizes.proofs.resolve.Tie as tie
+use Rattle.group_targets.proofs.resolve.Statement.{statement}
+use Rattle.group_targets.proofs.resolve.Tie as tie
 
 fill-requires : tie.Need-fill-requires
 fill-requires c κs = (c .before .before .before .before .before .before .before .pre .0 .0, refl)

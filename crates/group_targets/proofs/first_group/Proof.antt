@@ -1,4 +1,4 @@
--- `group_sizes::first_group` meets its contract: below p stands no group field. Assumes nothing.
+-- `group_targets::first_group` meets its contract: below p stands no group field. Assumes nothing.
 use borrow.Author.Needs.{needs}
 use native.Mathlib.Omega.{arith}
 use mathlib.Core.Path.{_≡_, _∙_}
@@ -6,10 +6,10 @@ use mathlib.Core.List.{List}
 use Prim.Native.Nat.{ℕ, _-_, _≤_}
 use lib.ListN.{length}
 use Rattle.rules.specs.Table.{decode}
-use Rattle.group_sizes.specs.Sizes.{Resolved}
-use Rattle.group_sizes.proofs.Resolves.{resolve-start, resolve-other}
-use Rattle.group_sizes.proofs.first_group.Statement.{statement}
-use Rattle.group_sizes.proofs.first_group.Tie as tie
+use Rattle.group_targets.specs.Targets.{Resolved}
+use Rattle.group_targets.proofs.Resolves.{resolve-start, resolve-other}
+use Rattle.group_targets.proofs.first_group.Statement.{statement}
+use Rattle.group_targets.proofs.first_group.Tie as tie
 
 abbrev Inv-loop : tie.InvT-loop
 Inv-loop t end p₀ p = (p ≤ length (decode t)) × ((targets : List ℕ) → length (decode t) ≤ length targets → Resolved (decode t) targets p) × (end ≡ length (decode t))
