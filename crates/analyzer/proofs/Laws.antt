@@ -1,12 +1,11 @@
 -- The rows of the table of replies, met one after another. Assumes nothing.
 use Prim.Native.Nat.{ℕ, zero, suc, _+_, _-_, _*_, _%_, _<_, _≤_}
 use mathlib.Core.Path.{_≡_, refl, sym, ap, _∙_}
-use mathlib.Core.List.{List, [], _∷_, map}
+use mathlib.Core.List.{List, [], _∷_}
 use mathlib.Core.Bool.{Bool, true, false, not}
 use borrow.Author.Tests.{ne-eqb, lt-ltb, le-ltb, ltb-false}
 use native.Mathlib.Omega.{arith}
-use native.Mathlib.Decide.{decLt}
-use lib.ListN.{length, take, getD}
+use lib.ListN.{length, take}
 use lib.Dec.{eqb, ltb}
 use Rattle.rules.specs.Choice.{if_then_else_}
 use Rattle.rules.specs.Table.{decode, recordLength, mostRecords}
@@ -15,8 +14,8 @@ use Rattle.rules.specs.Layouts.{layout, unsoundAt, ifFound}
 use Rattle.rules.specs.Faults.{Log, log, logged}
 use Rattle.rules.specs.Scopes.{pass1}
 use Rattle.rules.specs.DeclIdentifiers.{pass2, ordered}
-use Rattle.rules.specs.InlineGroups.{inlined, recordOf}
-use Rattle.rules.specs.Replies.{Numbered, Answer, numbered, answered, laterFaults, faultsOf, findsFaults, answeredFaulty, flagged, bySize, byPass, byPasses, byLayout, answer, layoutNumbered}
+use Rattle.rules.specs.InlineGroups.{inlined}
+use Rattle.rules.specs.Replies.{Numbered, Answer, numbered, answered, laterFaults, faultsOf, findsFaults, answeredFaulty, bySize, byPass, byPasses, byLayout, answer, layoutNumbered}
 use Rattle.rules.specs.declared.Record.{Record}
 use Rattle.rules.specs.declared.Fault.{Fault}
 use Rattle.rules.specs.declared.Tally.{Tally}
@@ -25,8 +24,7 @@ use Rattle.rules.specs.declared.Found.the-variants.{At, Nothing}
 use Rattle.rules.specs.declared.Layout.{Layout}
 use Rattle.rules.specs.declared.Layout.the-variants as layouts
 use Rattle.rules.specs.declared.Reply.{Reply}
-use Rattle.rules.specs.declared.Reply.the-variants.{Faulty, Swollen, Unfit}
-use Rattle.rules.specs.declared.FieldKey.{FieldKey}
+use Rattle.rules.specs.declared.Reply.the-variants.{Faulty}
 use Rattle.table.proofs.Laws.{first-in}
 use Rattle.faults.proofs.Laws.{logged-none}
 use Rattle.checks.specs.Later.{Outcome, outcome, checkedNumbered, findsLater, byLater, later}
@@ -39,14 +37,7 @@ use Rattle.order.specs.declared.Outcome as order
 use Rattle.order.proofs.Checks.{checked-total, checked-ordered}
 use Rattle.order.proofs.Names.{unique-names}
 use Rattle.order.proofs.Groups.{groups-first}
-use Rattle.groups.specs.Inlinings.{inlining, inliningBytes}
-use Rattle.groups.specs.declared.Inlining.{Inlining}
-use Rattle.groups.specs.declared.Inlining.the-variants as inlinings
-use Rattle.groups.proofs.Wholes.{length-records}
-use Rattle.groups.proofs.ReadBack.{reply-swollen, reply-unfit, reply-inlined, few-records, read-records, enough-room}
-use Rattle.analyzer.specs.Listed.{byListedPass, byListed, Wrote}
-use Rattle.analyzer.specs.declared.Written.{Written}
-use Rattle.analyzer.specs.declared.Written.the-variants.{Done, Short}
+use Rattle.analyzer.specs.Listed.{byListedPass, byListed}
 
 -- ---- the layout
 
@@ -159,58 +150,3 @@ module _ (i b out b′ out′ : List ℕ) (r : order.Outcome) (h : Checked i b o
     pub listed-answer : (t : List ℕ) {x : Answer} → x ≡ byListed (decode (take (40 * r .records) out′)) t b′ → x ≡ byPasses (decode i) t b
     listed-answer t e =
         (rw (order-is .records, no-fault b (pass2 (decode i)) (h .faults) z .0) at e) ∙ sym (clean-two (decode i) t b clean accepts)
-
--- ---- the inlined table
-
-module _ (rs : List Record) (m : ℕ) {x : Inlining} (e : x ≡ inlining m (inlined rs)) (t : List ℕ) where
-  pub told-swollen : x ≡ inlinings.Swollen → Wrote m rs t t (Done Swollen)
-  unfolding Wrote
-  told-swollen h f = reply-swollen m (inlined rs) t f (sym e ∙ h)
-
-  pub told-short : x ≡ inlinings.BufferShort → Wrote m rs t t Short
-  unfolding Wrote
-  told-short h = (refl, go (decLt m 64000))
-    where
-      go : Dec (m < 64000) → m < 64000
-      go (yes z) = z
-      go (no z) = absurd (enough-room m (inlined rs) (omega (arith, z)) (sym e ∙ h))
-
-  pub told-unfit : (k : FieldKey) → x ≡ inlinings.Unfit k → Wrote m rs t t (Done (Unfit k))
-  unfolding Wrote
-  told-unfit k h f = reply-unfit m (inlined rs) t f k (sym e ∙ h)
-
--- read back from the bytes that inlining wrote
-module _ (t : List ℕ) (small : (i : ℕ) → getD t i 0 < 256) {x : Inlining} (b : List ℕ) (e : x ≡ inlining (length b) (inlined (decode t)))
-    {b′ : List ℕ} (w : b′ ≡ inliningBytes b (inlined (decode t))) (n : ℕ) (h : x ≡ inlinings.Inlined n) where
-  read-back : decode (take (40 * n) b′) ≡ map recordOf (inlined (decode t))
-  read-back = rw w (read-records t small b n (sym e ∙ h))
-
-  pub inlined-few : (n ≤ 1600) × (n ≡ length (inlined (decode t))) × (40 * n ≤ length b)
-  inlined-few = few-records (length b) (inlined (decode t)) n (sym e ∙ h)
-
-  pub inlined-ready : length (decode (take (40 * n) b′)) ≤ 1600
-  inlined-ready = omega (arith, inlined-few .0, inlined-few .1, ap length read-back, length-records (inlined (decode t)))
-
-  pub told-inlined : (o : List ℕ) (r : Reply) {o′ : List ℕ}
-      → ((f : List ℕ) → answered r o′ f ≡ flagged (decode (take (40 * n) b′)) o f) → Wrote (length b) (decode t) o o′ (Done r)
-  unfolding Wrote
-  told-inlined o r d f = (rw read-back at (d f)) ∙ reply-inlined (length b) (inlined (decode t)) o f n (sym e ∙ h)
-
--- ---- the table, written with a buffer of m bytes
-
-module _ (m : ℕ) (rs : List Record) (t t′ : List ℕ) (x : Written) (w : Wrote m rs t t′ x) where
-  pub wrote-done : (r : Reply) → x ≡ Done r → (f : List ℕ) → answered r t′ f ≡ bySize (inlined rs) t f
-  unfolding Wrote
-  wrote-done r h = rw h at w
-
-  wrote-short : x ≡ Short → (t′ ≡ t) × (m < 64000)
-  unfolding Wrote
-  wrote-short h = rw h at w
-
-  pub wrote-large : 64000 ≤ m → x ≡ Short → (r : Reply) (f : List ℕ) → answered r t′ f ≡ bySize (inlined rs) t f
-  wrote-large z h r f = absurd (omega (arith, z, wrote-short h .1))
-
-  -- the second time, on the same table buffer
-  pub wrote-again : (r : Reply) {t″ : List ℕ} → x ≡ Short → ((f : List ℕ) → answered r t″ f ≡ bySize (inlined rs) t′ f)
-      → (f : List ℕ) → answered r t″ f ≡ bySize (inlined rs) t f
-  wrote-again r h d f = d f ∙ ap (λ (y : List ℕ). bySize (inlined rs) y f) (wrote-short h .0)

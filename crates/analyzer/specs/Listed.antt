@@ -1,16 +1,13 @@
 -- The rows of the table of replies from pass 3 on, on the listed table.
-use Prim.Native.Nat.{ℕ, _<_}
-use mathlib.Core.Path.{_≡_}
+use Prim.Native.Nat.{ℕ}
 use mathlib.Core.List.{List}
 use Rattle.rules.specs.Places.{first}
 use Rattle.rules.specs.InlineGroups.{inlined}
-use Rattle.rules.specs.Replies.{Answer, answered, laterFaults, answeredFaulty, bySize}
+use Rattle.rules.specs.Replies.{Answer, laterFaults, answeredFaulty, bySize}
 use Rattle.rules.specs.declared.Record.{Record}
 use Rattle.rules.specs.declared.Found.{Found}
 use Rattle.rules.specs.declared.Found.the-variants.{At, Nothing}
 use Rattle.checks.specs.Later.{findsLater}
-use Rattle.analyzer.specs.declared.Written.{Written}
-use Rattle.analyzer.specs.declared.Written.the-variants.{Done, Short}
 
 -- that pass, the lowest of 3–9, finds faults
 unfoldable pub byListedPass : List Record → List ℕ → List ℕ → Found → Answer
@@ -19,8 +16,3 @@ byListedPass ls t f Nothing = bySize (inlined ls) t f
 
 unfoldable pub byListed : List Record → List ℕ → List ℕ → Answer
 byListed ls t f = byListedPass ls t f (first (findsLater ls) 3 7)
-
--- what writing the table t gives with a buffer of m bytes: the rows from Swollen on, for any fault buffer, or t unchanged and m too small
-unfoldable pub Wrote : ℕ → List Record → List ℕ → List ℕ → Written → Type 0
-Wrote m rs t t′ (Done r) = (f : List ℕ) → answered r t′ f ≡ bySize (inlined rs) t f
-Wrote m rs t t′ Short = (t′ ≡ t) × (m < 64000)

@@ -1,8 +1,8 @@
--- `analyzer::write_listed` meets its contract: the small buffer is enough, or nothing was written yet. Assumes nothing.
+-- `rewrite::write_listed` meets its contract: the small buffer is enough, or nothing was written yet. Assumes nothing.
 use borrow.Author.Needs.{needs}
-use Rattle.analyzer.proofs.Laws.{wrote-done, wrote-again}
-use Rattle.analyzer.proofs.write_listed.Statement.{statement}
-use Rattle.analyzer.proofs.write_listed.Tie as tie
+use Rattle.rewrite.proofs.Laws.{wrote-done, wrote-again}
+use Rattle.rewrite.proofs.write_listed.Statement.{statement}
+use Rattle.rewrite.proofs.write_listed.Tie as tie
 
 returns-2 : tie.Need-returns-2
 returns-2 c = wrote-done _ _ _ _ _ (c .before .before .before .before .before .write-small .ensures) _ (c .before .reply .given .1)

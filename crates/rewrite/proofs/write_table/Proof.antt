@@ -1,4 +1,4 @@
--- `analyzer::write_table` meets its contract: the inlined table is read back from its bytes. Assumes nothing.
+-- `rewrite::write_table` meets its contract: the inlined table is read back from its bytes. Assumes nothing.
 use borrow.Author.Needs.{needs}
 use denote.Ref.{now}
 use native.Mathlib.Omega.{arith}
@@ -6,9 +6,9 @@ use mathlib.Core.Path.{sym}
 use Prim.Native.Nat.{_*_, _≤_}
 use lib.ListN.{length}
 use lib.Seq.{length-take-le}
-use Rattle.analyzer.proofs.Laws.{told-swollen, told-short, told-unfit, inlined-few, inlined-ready, told-inlined}
-use Rattle.analyzer.proofs.write_table.Statement.{statement}
-use Rattle.analyzer.proofs.write_table.Tie as tie
+use Rattle.rewrite.proofs.Laws.{told-swollen, told-short, told-unfit, inlined-few, part-few, told-inlined}
+use Rattle.rewrite.proofs.write_table.Statement.{statement}
+use Rattle.rewrite.proofs.write_table.Tie as tie
 
 few : (c : tie.After-known-told2)
     → (c .before .n .given .0 .0 ≤ 1600) × (40 * c .before .n .given .0 .0 ≤ length (now (c .before .before .before .before .before .before .before .before .before .before .args .expanded)))
@@ -31,10 +31,7 @@ slice-aggregate-desugar-flags c = sym (length-take-le _ _ (omega (arith, few (c 
 
 desugar-flags-requires : tie.Need-desugar-flags-requires
 desugar-flags-requires c κs =
-    let i = c .before .before .before .before .before .before .before in
-    let s = i .before .before .before .before .before in
-    inlined-ready (now (s .args .listed)) (λ k. omega (arith, i .before .before .before .before .shared-slice-known .given k)) (now (s .args .expanded))
-    (i .inline-groups .ensures .0 .0) (i .inline-groups .ensures .0 .1) _ (c .before .before .before .n .given .1)
+    part-few (c .before .before .before .before .before .before .before .inline-groups .last .1 .0) (slice-reshare-prefix-desugar-flags (c .before .before)) (omega (arith, few (c .before .before) .0))
 
 returns : tie.Need-returns
 returns c = told-swollen _ _ (c .before .before .before .before .inline-groups .ensures .0 .0) _ (c .enum-told .given .1)
