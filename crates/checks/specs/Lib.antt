@@ -1,3 +1,1 @@
-pub mod Passes
-pub mod Known
 pub mod Later

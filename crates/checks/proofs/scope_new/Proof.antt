@@ -1,6 +1,6 @@
 -- `checks::scope_new` meets its contract. Assumes nothing.
 use borrow.Author.Needs.{needs}
-use Rattle.checks.specs.Passes.{passFaults}
+use Rattle.pass_faults.specs.Passes.{passFaults}
 use Rattle.checks.proofs.scope_new.Statement.{statement}
 use Rattle.checks.proofs.scope_new.Tie as tie
 

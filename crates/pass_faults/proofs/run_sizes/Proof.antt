@@ -1,11 +1,11 @@
--- `checks::run_sizes` meets its contract. Assumes nothing.
+-- `pass_faults::run_sizes` meets its contract. Assumes nothing.
 use borrow.Author.Needs.{needs}
 use native.Mathlib.Omega.{arith}
 use Rattle.marks.proofs.Laws.{marked-ones}
 use Rattle.size_starts.proofs.Laws.{starts-unknown}
-use Rattle.checks.proofs.Known.{known-sizes}
-use Rattle.checks.proofs.run_sizes.Statement.{statement}
-use Rattle.checks.proofs.run_sizes.Tie as tie
+use Rattle.pass_faults.proofs.Known.{known-sizes}
+use Rattle.pass_faults.proofs.run_sizes.Statement.{statement}
+use Rattle.pass_faults.proofs.run_sizes.Tie as tie
 
 mark-requires : tie.Need-mark-requires
 mark-requires c κs = (search needs, marked-ones _ _ 1600)

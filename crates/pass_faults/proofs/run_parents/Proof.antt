@@ -1,9 +1,9 @@
--- `checks::run_parents` meets its contract. Assumes nothing.
+-- `pass_faults::run_parents` meets its contract. Assumes nothing.
 use borrow.Author.Needs.{needs}
 use native.Mathlib.Omega.{arith}
-use Rattle.checks.proofs.Known.{known-parents}
-use Rattle.checks.proofs.run_parents.Statement.{statement}
-use Rattle.checks.proofs.run_parents.Tie as tie
+use Rattle.pass_faults.proofs.Known.{known-parents}
+use Rattle.pass_faults.proofs.run_parents.Statement.{statement}
+use Rattle.pass_faults.proofs.run_parents.Tie as tie
 
 run-places-requires : tie.Need-run-places-requires
 run-places-requires c κs = (λ e. absurd (omega arith), known-parents _ _ _ _ (c .before .before .before .before .before .mark-parents .ensures))

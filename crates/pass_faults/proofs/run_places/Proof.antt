@@ -1,4 +1,4 @@
--- `checks::run_places` meets its contract: after p turns the faults of the places below p are noted. Assumes nothing.
+-- `pass_faults::run_places` meets its contract: after p turns the faults of the places below p are noted. Assumes nothing.
 use borrow.Author.Needs.{needs}
 use native.Mathlib.Omega.{arith}
 use denote.Ref.{now}
@@ -12,10 +12,10 @@ use Rattle.rules.specs.declared.Tally.{Tally}
 use Rattle.faults.specs.Notes.{none, notedAll}
 use Rattle.faults.proofs.Laws.{noted-start, noted-place, noted-end, noted-logged}
 use Rattle.table.proofs.Laws.{length-decode}
-use Rattle.checks.specs.Passes.{passAt}
-use Rattle.checks.proofs.Laws.{pass-faults}
-use Rattle.checks.proofs.run_places.Statement.{statement}
-use Rattle.checks.proofs.run_places.Tie as tie
+use Rattle.pass_faults.specs.Passes.{passAt}
+use Rattle.pass_faults.proofs.Laws.{pass-faults}
+use Rattle.pass_faults.proofs.run_places.Statement.{statement}
+use Rattle.pass_faults.proofs.run_places.Tie as tie
 
 abbrev Inv-loop : tie.InvT-loop
 Inv-loop pass t marks more places buffer₀ n tally₀ p₀ buffer tally p =

@@ -1,8 +1,8 @@
--- `checks::run_plain` meets its contract. Assumes nothing.
+-- `pass_faults::run_plain` meets its contract. Assumes nothing.
 use borrow.Author.Needs.{needs}
-use Rattle.checks.proofs.Known.{known-none}
-use Rattle.checks.proofs.run_plain.Statement.{statement}
-use Rattle.checks.proofs.run_plain.Tie as tie
+use Rattle.pass_faults.proofs.Known.{known-none}
+use Rattle.pass_faults.proofs.run_plain.Statement.{statement}
+use Rattle.pass_faults.proofs.run_plain.Tie as tie
 
 run-places-requires : tie.Need-run-places-requires
 run-places-requires c κs = (c .before .before .before .before .before .before .pre, known-none _ _)

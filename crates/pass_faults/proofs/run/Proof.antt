@@ -1,12 +1,12 @@
--- `checks::run` meets its contract. Assumes nothing.
+-- `pass_faults::run` meets its contract. Assumes nothing.
 use borrow.Author.Needs.{needs}
 use borrow.Author.Tests.{not-false}
 use mathlib.Core.Path.{refl}
 use mathlib.Core.Logic.{inl, inr}
 use Rattle.rules.specs.Replies.{laterFaults}
-use Rattle.checks.specs.Passes.{passFaults}
-use Rattle.checks.proofs.run.Statement.{statement}
-use Rattle.checks.proofs.run.Tie as tie
+use Rattle.pass_faults.specs.Passes.{passFaults}
+use Rattle.pass_faults.proofs.run.Statement.{statement}
+use Rattle.pass_faults.proofs.run.Tie as tie
 
 check-enum-declarations-requires : tie.Need-check-enum-declarations-requires
 check-enum-declarations-requires c κs =

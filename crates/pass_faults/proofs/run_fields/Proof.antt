@@ -1,10 +1,10 @@
--- `checks::run_fields` meets its contract. Assumes nothing.
+-- `pass_faults::run_fields` meets its contract. Assumes nothing.
 use borrow.Author.Needs.{needs}
 use native.Mathlib.Omega.{arith}
 use Rattle.marks.proofs.Laws.{marked-ones}
-use Rattle.checks.proofs.Known.{known-fields}
-use Rattle.checks.proofs.run_fields.Statement.{statement}
-use Rattle.checks.proofs.run_fields.Tie as tie
+use Rattle.pass_faults.proofs.Known.{known-fields}
+use Rattle.pass_faults.proofs.run_fields.Statement.{statement}
+use Rattle.pass_faults.proofs.run_fields.Tie as tie
 
 mark-requires : tie.Need-mark-requires
 mark-requires c κs = (search needs, marked-ones _ _ 1600)

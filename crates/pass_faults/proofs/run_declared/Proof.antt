@@ -1,8 +1,8 @@
--- `checks::run_declared` meets its contract. Assumes nothing.
+-- `pass_faults::run_declared` meets its contract. Assumes nothing.
 use borrow.Author.Needs.{needs}
-use Rattle.checks.proofs.Known.{known-declared, declared-other}
-use Rattle.checks.proofs.run_declared.Statement.{statement}
-use Rattle.checks.proofs.run_declared.Tie as tie
+use Rattle.pass_faults.proofs.Known.{known-declared, declared-other}
+use Rattle.pass_faults.proofs.run_declared.Statement.{statement}
+use Rattle.pass_faults.proofs.run_declared.Tie as tie
 
 run-places-requires : tie.Need-run-places-requires
 run-places-requires c κs =

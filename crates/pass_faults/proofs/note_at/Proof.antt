@@ -1,12 +1,12 @@
--- `checks::note_at` meets its contract. Assumes nothing.
+-- `pass_faults::note_at` meets its contract. Assumes nothing.
 use borrow.Author.Needs.{needs}
 use native.Mathlib.Omega.{arith}
 use Rattle.rules.specs.SizeFields.{pass5At}
-use Rattle.checks.specs.Passes.{passAt}
-use Rattle.checks.proofs.Known.{known-other}
-use Rattle.checks.proofs.Laws.{one-more, noted-once, noted-twice}
-use Rattle.checks.proofs.note_at.Statement.{statement}
-use Rattle.checks.proofs.note_at.Tie as tie
+use Rattle.pass_faults.specs.Passes.{passAt}
+use Rattle.pass_faults.proofs.Known.{known-other}
+use Rattle.pass_faults.proofs.Laws.{one-more, noted-once, noted-twice}
+use Rattle.pass_faults.proofs.note_at.Statement.{statement}
+use Rattle.pass_faults.proofs.note_at.Tie as tie
 
 finding-requires : tie.Need-finding-requires
 finding-requires c κs =

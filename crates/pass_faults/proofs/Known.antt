@@ -13,7 +13,7 @@ use Rattle.marks.proofs.Laws.{marked-ones}
 use Rattle.size_starts.specs.SizeStarts.{SizeStarts}
 use Rattle.parents.specs.Parents.{Parents}
 use Rattle.size_starts.proofs.Laws.{starts-empty}
-use Rattle.checks.specs.Known.{Known}
+use Rattle.pass_faults.specs.Known.{Known}
 
 pub declared-other : (k : ℕ) → (k ≡ 1) ⊎ (k ≡ 6) → k ≡ 4 → ⊥
 declared-other k (inl a) e = omega arith

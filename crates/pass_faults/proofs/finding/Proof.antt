@@ -1,9 +1,9 @@
--- `checks::finding` meets its contract. Assumes nothing.
+-- `pass_faults::finding` meets its contract. Assumes nothing.
 use borrow.Author.Needs.{needs}
 use borrow.Author.Tests.{ne-eqb}
-use Rattle.checks.specs.Passes.{passAt}
-use Rattle.checks.proofs.finding.Statement.{statement}
-use Rattle.checks.proofs.finding.Tie as tie
+use Rattle.pass_faults.specs.Passes.{passAt}
+use Rattle.pass_faults.proofs.finding.Statement.{statement}
+use Rattle.pass_faults.proofs.finding.Tie as tie
 
 returns : tie.Need-returns
 unfolding passAt
