@@ -5,7 +5,7 @@ use native.Mathlib.Omega.{arith}
 use Prim.Native.Nat.{_≤_}
 use lib.ListN.{length}
 use lib.Seq.{length-take-le}
-use Rattle.shell.specs.Inputs.{Fits}
+use Rattle.input.specs.Inputs.{Fits}
 use Rattle.shell.proofs.run.Statement.{statement}
 use Rattle.shell.proofs.run.Tie as tie
 

@@ -1,12 +1,12 @@
--- `shell::read_all` meets its contract: what is read stays within the buffer. Assumes nothing.
+-- `input::read_all` meets its contract: what is read stays within the buffer. Assumes nothing.
 use borrow.Author.Needs.{needs}
 use mathlib.Core.Path.{_≡_, refl, sym}
 use native.Mathlib.Omega.{arith}
 use Prim.Native.Nat.{_≤_}
 use lib.ListN.{length}
 use lib.Seq.{length-take-le}
-use Rattle.shell.proofs.read_all.Statement.{statement}
-use Rattle.shell.proofs.read_all.Tie as tie
+use Rattle.input.proofs.read_all.Statement.{statement}
+use Rattle.input.proofs.read_all.Tie as tie
 
 abbrev Inv-loop : tie.InvT-loop
 Inv-loop input₀ chunk₀ total₀ turns₀ input chunk total turns = (length input ≡ length input₀) × (length chunk ≡ length chunk₀) × (total ≤ 64040)

@@ -1,4 +1,4 @@
--- `shell::take_in` meets its contract: what stood for an input stands for it with the next bytes. Assumes nothing.
+-- `input::take_in` meets its contract: what stood for an input stands for it with the next bytes. Assumes nothing.
 use borrow.Author.Needs.{needs}
 use denote.Ref.{now}
 use mathlib.Core.Path.{sym, subst}
@@ -7,10 +7,10 @@ use native.Mathlib.Omega.{arith}
 use Prim.Native.Nat.{ℕ, _+_}
 use lib.ListN.{length, take}
 use lib.Seq.{length-take-le}
-use Rattle.shell.specs.Inputs.{StandsFor}
-use Rattle.shell.proofs.Laws.{short-few, stands-more}
-use Rattle.shell.proofs.take_in.Statement.{statement}
-use Rattle.shell.proofs.take_in.Tie as tie
+use Rattle.input.specs.Inputs.{StandsFor}
+use Rattle.input.proofs.Laws.{short-few, stands-more}
+use Rattle.input.proofs.take_in.Statement.{statement}
+use Rattle.input.proofs.take_in.Tie as tie
 
 slice-aggregate-write : tie.Need-slice-aggregate-write
 slice-aggregate-write c = sym (length-take-le _ _ (c .before .before .room-for .ensures .0))

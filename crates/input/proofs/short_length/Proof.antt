@@ -1,10 +1,10 @@
--- `shell::short_length` meets its contract. Assumes nothing.
+-- `input::short_length` meets its contract. Assumes nothing.
 use borrow.Author.Needs.{needs}
 use mathlib.Core.Path.{sym}
 use native.Mathlib.Omega.{arith}
-use Rattle.shell.proofs.Laws.{short-same, short-long}
-use Rattle.shell.proofs.short_length.Statement.{statement}
-use Rattle.shell.proofs.short_length.Tie as tie
+use Rattle.input.proofs.Laws.{short-same, short-long}
+use Rattle.input.proofs.short_length.Statement.{statement}
+use Rattle.input.proofs.short_length.Tie as tie
 
 returns : tie.Need-returns
 returns c = sym (short-same _ (c .if1 .taken))

@@ -5,8 +5,8 @@ use Prim.Native.Nat.{ℕ, _+_, _-_, _%_, _≤_}
 use lib.Dec.{leb}
 use lib.ListN.{length}
 use Rattle.rules.specs.Choice.{if_then_else_}
-use Rattle.shell.specs.declared.Reading.{Reading}
-use Rattle.shell.specs.declared.Reading.the-variants.{End, Failed}
+use Rattle.input.specs.declared.Reading.{Reading}
+use Rattle.input.specs.declared.Reading.the-variants.{End, Failed}
 
 -- a length with the same remainder, and above 64,000 like it
 abbrev pub shortLength : ℕ → ℕ
