@@ -1,19 +1,14 @@
 // The layout of a table: its length, the row of each record and the place where it stands.
-mod rows;
-
 use kinds::holds_fields;
 use kinds::is_decl;
 use kinds::is_field;
 use kinds::is_packet_or_struct;
-use rows::row_of;
 use rules::Layout;
-use rules::Record;
-use rules::Row;
 ghost use mathlib.Core.Path.{_≡_};
 ghost use Prim.Native.Nat.{_+_, _<_, _≤_};
 ghost use lib.ListN.{length};
 ghost use Rattle.rules.specs.Table.{decode};
-ghost use Rattle.rules.specs.Layouts.{nameFits, numberFits, keyFits, arrayFits, keeps, spareZero, constraintStands, stands, soundAt, layout};
+ghost use Rattle.rules.specs.Layouts.{spareZero, constraintStands, stands, soundAt, layout};
 ghost use Rattle.rules.specs.Replies.{layoutNumbered};
 ghost use Rattle.layout.specs.Surroundings.{around, after};
 
@@ -22,47 +17,6 @@ struct Around {
     decl: u8,
     before2: u8,
     before1: u8,
-}
-
-fn name_fits(s: u8, n: u16) -> bool
-    ensures { λ r. ⌜ r ≡ nameFits s n ⌝ }
-{
-    (s == 2) | (((s == 1) & !(n == 0)) | ((s == 0) & (n == 0)))
-}
-
-fn number_fits(s: u8, mark: bool, n: u64) -> bool
-    ensures { λ r. ⌜ r ≡ numberFits s mark n ⌝ }
-{
-    (n == 0) | ((s == 1) | ((s == 2) & mark))
-}
-
-fn key_fits(r: Record) -> bool
-    ensures { λ b. ⌜ b ≡ keyFits r ⌝ }
-{
-    (r.key == 0) | (is_decl(r.kind) | is_field(r.kind))
-}
-
-fn array_fits(r: Record) -> bool
-    ensures { λ b. ⌜ b ≡ arrayFits r ⌝ }
-{
-    let width = r.marks % 2 == 1;
-    !(r.kind == 30) | ((width & (r.second == 0)) | (!width & !(r.second == 0)))
-}
-
-// Whether a record keeps to a row.
-fn keeps_row(w: Row, r: Record) -> bool
-    ensures { λ b. ⌜ b ≡ keeps w r ⌝ }
-{
-    let width = r.marks % 2 == 1;
-    let count = 2 <= r.marks;
-    !((w.kind == 0) | ((w.kind == 12) | (w.kind == 32)))
-        & ((r.marks <= w.marks)
-            & (name_fits(w.name, r.name)
-                & (name_fits(w.second, r.second)
-                    & (name_fits(w.third, r.third)
-                        & (number_fits(w.one, width, r.one)
-                            & (number_fits(w.two, count, r.two)
-                                & (key_fits(r) & array_fits(r))))))))
 }
 
 // Whether a constraint may stand behind records of kinds o and q.
@@ -101,9 +55,8 @@ fn sound_at(t: &[u8], p: usize, a: Around) -> bool
     ensures { λ r. ⌜ r ≡ soundAt (now (t .entry)) p ⌝ }
 {
     let r = table::record(t, p);
-    let w = row_of(r.kind);
     let i = table::base(t, p);
-    spare_zero(t, i) & (keeps_row(w, r) & stands_well(a, r.kind))
+    spare_zero(t, i) & (rows::keeps_row(r) & stands_well(a, r.kind))
 }
 
 // The kinds around the next place, behind a record of kind k.

@@ -11,13 +11,11 @@ returns c =
     let k = c .before in
     let s = k .before in
     let i = s .before in
-    let w = i .before in
-    let r = w .before in
-    rw (c .stands-well .ensures, k .keeps-row .ensures, s .spare-zero .ensures, w .row-of .ensures, i .base .ensures .0, r .record .ensures, r .before .before .pre .1)
+    let r = i .before in
+    rw (c .stands-well .ensures, k .keeps-row .ensures, s .spare-zero .ensures, i .base .ensures .0, r .record .ensures, r .before .before .pre .1)
 
 pub sound-at-spec : {M : Type 1} → statement M
 sound-at-spec =
     tie.close
     (tie.spec
-    (λ c κs. search needs) (λ c κs. search needs) (λ c κs. search needs) (λ c κs. search needs) (λ c κs. search needs)
-    (λ c κs. search needs) returns)
+    (λ c κs. search needs) (λ c κs. search needs) (λ c κs. search needs) (λ c κs. search needs) (λ c κs. search needs) returns)

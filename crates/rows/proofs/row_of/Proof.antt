@@ -1,9 +1,9 @@
--- `layout::rows::row_of` meets its contract: each arm is a row of the table. Assumes nothing.
+-- `rows::row_of` meets its contract: each arm is a row of the table. Assumes nothing.
 use borrow.Author.Needs.{needs}
 use borrow.Author.Tests.{ne-eqb}
 use Rattle.rules.specs.Layouts.{rows, rowAmong, rowOf}
-use Rattle.layout.proofs.rows.row_of.Statement.{statement}
-use Rattle.layout.proofs.rows.row_of.Tie as tie
+use Rattle.rows.proofs.row_of.Statement.{statement}
+use Rattle.rows.proofs.row_of.Tie as tie
 
 returns : tie.Need-returns
 unfolding rowOf rowAmong rows

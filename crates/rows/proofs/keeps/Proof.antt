@@ -1,7 +1,7 @@
--- `layout::keeps_row` meets its contract. Assumes nothing.
+-- `rows::keeps` meets its contract. Assumes nothing.
 use borrow.Author.Needs.{needs}
-use Rattle.layout.proofs.keeps_row.Statement.{statement}
-use Rattle.layout.proofs.keeps_row.Tie as tie
+use Rattle.rows.proofs.keeps.Statement.{statement}
+use Rattle.rows.proofs.keeps.Tie as tie
 
 returns : tie.Need-returns
 returns c =
@@ -12,8 +12,8 @@ returns c =
     let s = t .before in
     rw (c .array-fits .ensures, k .key-fits .ensures, w .number-fits2 .ensures, o .number-fits .ensures, t .name-fits3 .ensures, s .name-fits2 .ensures, s .before .name-fits .ensures)
 
-pub keeps-row-spec : {M : Type 1} → statement M
-keeps-row-spec =
+pub keeps-spec : {M : Type 1} → statement M
+keeps-spec =
     tie.close
     (tie.spec
     (λ c κs. search needs) (λ c κs. search needs) (λ c κs. search needs) (λ c κs. search needs) (λ c κs. search needs)

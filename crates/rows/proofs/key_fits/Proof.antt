@@ -1,7 +1,7 @@
--- `layout::key_fits` meets its contract. Assumes nothing.
+-- `rows::key_fits` meets its contract. Assumes nothing.
 use borrow.Author.Needs.{needs}
-use Rattle.layout.proofs.key_fits.Statement.{statement}
-use Rattle.layout.proofs.key_fits.Tie as tie
+use Rattle.rows.proofs.key_fits.Statement.{statement}
+use Rattle.rows.proofs.key_fits.Tie as tie
 
 returns : tie.Need-returns
 returns c = rw (c .is-field .ensures, c .before .is-decl .ensures)

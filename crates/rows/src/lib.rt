@@ -1,7 +1,10 @@
-// The table of records: what each kind holds.
+// The table of records: the row of each kind, and whether a record keeps to its row.
+use kinds::is_decl;
+use kinds::is_field;
+use rules::Record;
 use rules::Row;
 ghost use mathlib.Core.Path.{_≡_};
-ghost use Rattle.rules.specs.Layouts.{row, rowOf};
+ghost use Rattle.rules.specs.Layouts.{row, rowOf, nameFits, numberFits, keyFits, arrayFits, keeps};
 
 // A name or number that a kind doesn't list, or lists; a name that is opt; a number under its mark.
 const NONE: u8 = 0;
@@ -27,7 +30,7 @@ fn row(kind: u8, marks: u8, name: u8, second: u8, third: u8, one: u8, two: u8) -
 }
 
 // The row of a kind, or one of kind 0.
-pub(crate) fn row_of(kind: u8) -> Row
+fn row_of(kind: u8) -> Row
     ensures { λ r. ⌜ r ≡ rowOf kind ⌝ }
 {
     match kind {
@@ -62,4 +65,52 @@ pub(crate) fn row_of(kind: u8) -> Row
         43 => row(43, 0, LISTED, NONE, NONE, NONE, NONE),
         _ => row(0, 0, NONE, NONE, NONE, NONE, NONE),
     }
+}
+
+fn name_fits(s: u8, n: u16) -> bool
+    ensures { λ r. ⌜ r ≡ nameFits s n ⌝ }
+{
+    (s == 2) | (((s == 1) & !(n == 0)) | ((s == 0) & (n == 0)))
+}
+
+fn number_fits(s: u8, mark: bool, n: u64) -> bool
+    ensures { λ r. ⌜ r ≡ numberFits s mark n ⌝ }
+{
+    (n == 0) | ((s == 1) | ((s == 2) & mark))
+}
+
+fn key_fits(r: Record) -> bool
+    ensures { λ b. ⌜ b ≡ keyFits r ⌝ }
+{
+    (r.key == 0) | (is_decl(r.kind) | is_field(r.kind))
+}
+
+fn array_fits(r: Record) -> bool
+    ensures { λ b. ⌜ b ≡ arrayFits r ⌝ }
+{
+    let width = r.marks % 2 == 1;
+    !(r.kind == 30) | ((width & (r.second == 0)) | (!width & !(r.second == 0)))
+}
+
+// Whether a record keeps to a row.
+fn keeps(w: Row, r: Record) -> bool
+    ensures { λ b. ⌜ b ≡ keeps w r ⌝ }
+{
+    let width = r.marks % 2 == 1;
+    let count = 2 <= r.marks;
+    !((w.kind == 0) | ((w.kind == 12) | (w.kind == 32)))
+        & ((r.marks <= w.marks)
+            & (name_fits(w.name, r.name)
+                & (name_fits(w.second, r.second)
+                    & (name_fits(w.third, r.third)
+                        & (number_fits(w.one, width, r.one)
+                            & (number_fits(w.two, count, r.two)
+                                & (key_fits(r) & array_fits(r))))))))
+}
+
+// Whether a record keeps to the row of its kind.
+pub fn keeps_row(r: Record) -> bool
+    ensures { λ b. ⌜ b ≡ keeps (rowOf (r .kind)) r ⌝ }
+{
+    keeps(row_of(r.kind), r)
 }
