@@ -6,7 +6,7 @@ use native.Mathlib.Nat.{mod-eq-of-lt, one-mul}
 use borrow.Author.Tests.{lt-ltb, le-ltb}
 use lib.Dec.{eqb·suc-zero}
 use lib.Pow.{pow-pos, pow-lt}
-use lib.Count.{leadingZeros, leading-le}
+use lib.Count.{leadingZeros, trailingZeros, leading-le, trailing-le}
 use Rattle.rules.specs.Widths.{digits, bitWidth, scalarMax}
 
 -- the leading zeros and the digits of a number make k
@@ -16,8 +16,9 @@ zeros-and-digits zero n = refl
 zeros-and-digits (suc k) zero = omega arith
 zeros-and-digits (suc k) (suc n) = rw (digits, eqb·suc-zero n) (omega (arith, zeros-and-digits k (suc n / 2)))
 
-pub zeros-below : (n : ℕ) → leadingZeros 64 n ≤ 64
-zeros-below n = leading-le 64 n
+-- of either end at most 64, so that a count from the wrong end fails at its result
+pub zeros-below : (n : ℕ) → (leadingZeros 64 n ≤ 64) × (trailingZeros 64 n ≤ 64)
+zeros-below n = (leading-le 64 n, trailing-le 64 n)
 
 pub width-of-zeros : (n : ℕ) → 64 - leadingZeros 64 n ≡ bitWidth n
 unfolding bitWidth
