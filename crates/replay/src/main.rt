@@ -175,8 +175,8 @@ fn run(input: &mut [u8], faults: &mut [u8], out: &mut [u8]) {
 }
 
 fn main() {
-    let mut input = stored::input_buffer();
-    let mut faults = stored::buffer();
-    let mut out = stored::buffer();
+    let mut input = buffers::input_buffer();
+    let mut faults = buffers::buffer();
+    let mut out = buffers::buffer();
     run(&mut input, &mut faults, &mut out);
 }

@@ -3,7 +3,6 @@
 // of the fault buffer) and the input.
 use libc::STDIN_FILENO;
 use libc::STDOUT_FILENO;
-ghost use mathlib.Core.Path.{_≡_};
 ghost use Prim.Native.Nat.{_<_, _≤_};
 ghost use lib.ListN.{length};
 ghost use Rattle.stored.specs.Cases.{Fits};
@@ -20,20 +19,6 @@ pub struct Case {
 pub enum Next {
     Read(Case),
     End,
-}
-
-// The longest input: one record more than a table may have, and a byte.
-pub fn input_buffer() -> [u8; 64041]
-    ensures { λ r. ⌜ 64041 ≡ length r ⌝ }
-{
-    [0; 64041]
-}
-
-// A table or fault buffer as large as the program's.
-pub fn buffer() -> [u8; 64000]
-    ensures { λ r. ⌜ 64000 ≡ length r ⌝ }
-{
-    [0; 64000]
 }
 
 // Reads the next case. A case that is cut short or too long for the buffers ends the replay, so that the output differs.

@@ -5,7 +5,8 @@ use mathlib.Core.List.{List}
 use Prim.Native.Nat.{ℕ}
 use Rattle.rules.specs.Replies.{Answer, numbered, answered}
 use Rattle.rules.specs.declared.Reply.{Reply}
-use Rattle.console.specs.Numbers.{headerNumbers, outputs, headerAnswer}
+use Rattle.header.specs.Numbers.{headerNumbers}
+use Rattle.console.specs.Outputs.{outputs, headerAnswer}
 use Rattle.console.proofs.pdl_analyze.Statement.{statement}
 use Rattle.console.proofs.pdl_analyze.Tie as tie
 

@@ -1,11 +1,11 @@
--- `console::numbers` meets its contract: each row's three numbers. Assumes nothing.
+-- `header::numbers` meets its contract: each row's three numbers. Assumes nothing.
 use borrow.Author.Needs.{needs}
 use mathlib.Core.Path.{_≡_, sym, ap}
 use Rattle.rules.specs.Replies.{numbered}
 use Rattle.rules.specs.declared.Reply.{Reply}
-use Rattle.console.specs.Numbers.{headerNumbers}
-use Rattle.console.proofs.numbers.Statement.{statement}
-use Rattle.console.proofs.numbers.Tie as tie
+use Rattle.header.specs.Numbers.{headerNumbers}
+use Rattle.header.proofs.numbers.Statement.{statement}
+use Rattle.header.proofs.numbers.Tie as tie
 
 same : {r s : Reply} → r ≡ s → headerNumbers (numbered s) ≡ headerNumbers (numbered r)
 same e = sym (ap (λ (x : Reply). headerNumbers (numbered x)) e)
