@@ -3,7 +3,7 @@ use borrow.Author.Needs.{needs}
 use native.Mathlib.Omega.{arith}
 use denote.Ref.{now}
 use Prim.Native.Nat.{_-_, _≤_}
-use mathlib.Core.Path.{_≡_, refl, sym, ap, _∙_}
+use mathlib.Core.Path.{_≡_, refl, _∙_}
 use Rattle.rules.specs.Table.{decode}
 use Rattle.rules.specs.Places.{first}
 use Rattle.table.proofs.Laws.{up-hit, up-miss, up-end}
