@@ -21,11 +21,11 @@ fn redundant_size(t: &[u8], p: usize, found: Found) -> Finding
 {
     match found {
         Found::At(q) => {
-            let s = table::at(t, q);
+            let s = records::at(t, q);
             if kinds::is_decl(s.kind) {
                 return Finding::Fine;
             }
-            Finding::One(fault::double(38, s, table::at(t, p)))
+            Finding::One(fault::double(38, s, records::at(t, p)))
         }
         Found::Nothing => Finding::Fine,
     }
@@ -34,7 +34,7 @@ fn redundant_size(t: &[u8], p: usize, found: Found) -> Finding
 pub fn at_place(t: &[u8], p: usize) -> Finding
     ensures { λ r. ⌜ findings r ≡ pass8At (decode (now (t .entry))) p ⌝ }
 {
-    let r = table::at(t, p);
+    let r = records::at(t, p);
     if (r.kind == 30) & (2 <= r.marks) {
         return redundant_size(t, p, first_size(t, r.name, p));
     }

@@ -1,26 +1,13 @@
 // The bounds of ranges, kept as numbers, so that a value is held against them without a read of the table.
-use rules::Record;
+use range::greater;
+use range::lesser;
 ghost use mathlib.Core.Path.{_≡_};
 ghost use Prim.Native.Nat.{_≤_};
 ghost use lib.Dec.{leb};
 ghost use lib.ListN.{length, take};
 ghost use Rattle.rules.specs.Table.{decode};
-ghost use Rattle.rules.specs.EnumDeclarations.{lesser, greater};
 ghost use Rattle.bounds.specs.Bounds.{one, countOf, holders, lowsOf, highsOf};
 ghost use Rattle.bounds.specs.Order.{Ordered, Split};
-
-// The bounds of a range, put in order.
-pub fn lesser(r: Record) -> u64
-    ensures { λ n. ⌜ n ≡ lesser r ⌝ }
-{
-    if r.one <= r.two { r.one } else { r.two }
-}
-
-pub fn greater(r: Record) -> u64
-    ensures { λ n. ⌜ n ≡ greater r ⌝ }
-{
-    if r.one <= r.two { r.two } else { r.one }
-}
 
 // The bounds of the ranges at the first m places of s.
 pub fn fill(t: &[u8], s: &[u16], m: usize, lows: &mut [u64], highs: &mut [u64])
@@ -29,7 +16,7 @@ pub fn fill(t: &[u8], s: &[u16], m: usize, lows: &mut [u64], highs: &mut [u64])
 {
     let mut j = 0;
     while j < m {
-        let r = table::at(t, s[j] as usize);
+        let r = records::at(t, s[j] as usize);
         lows[j] = lesser(r);
         highs[j] = greater(r);
         j += 1;

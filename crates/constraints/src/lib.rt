@@ -80,12 +80,12 @@ pub fn inlined_record(t: &[u8], env: &[u16], r: Record) -> Inlined
 {
     if r.kind == 31 {
         match lookup(t, env, r.name) {
-            Found::At(q) => fixed_scalar(r, table::at(t, q)),
+            Found::At(q) => fixed_scalar(r, records::at(t, q)),
             Found::Nothing => Inlined { made: r, fit: true },
         }
     } else if r.kind == 33 {
         match lookup(t, env, r.name) {
-            Found::At(q) => fixed_enum(r, table::at(t, q)),
+            Found::At(q) => fixed_enum(r, records::at(t, q)),
             Found::Nothing => Inlined { made: r, fit: true },
         }
     } else {

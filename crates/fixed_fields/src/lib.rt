@@ -14,10 +14,10 @@ ghost use Rattle.names.specs.Starts.{Starts};
 fn enum_fault(t: &[u8], p: usize, found: Found) -> Finding
     ensures { λ r. ⌜ findings r ≡ enumFault (decode (now (t .entry))) p found ⌝ }
 {
-    let r = table::at(t, p);
+    let r = records::at(t, p);
     match found {
         Found::At(d) => {
-            let e = table::at(t, d);
+            let e = records::at(t, d);
             if e.kind != 3 {
                 return Finding::One(fault::double(35, r, e));
             }
@@ -34,7 +34,7 @@ pub fn at_place(t: &[u8], starts: &[u16], p: usize) -> Finding
     requires { ⌜ Starts (decode (now t)) (now starts) ⌝ }
     ensures { λ r. ⌜ findings r ≡ pass6At (decode (now (t .entry))) p ⌝ }
 {
-    let r = table::at(t, p);
+    let r = records::at(t, p);
     let k = r.kind;
     if k == 27 {
         return when(r.one < widths::bit_width(r.two), fault::single(32, r));

@@ -14,8 +14,8 @@ ghost use Rattle.flag_table.specs.Appended.{Appended, Room};
 fn entry_of(t: &[u8], q: usize) -> Record
     ensures { λ r. ⌜ r ≡ entryOf (decode (now (t .entry))) q ⌝ }
 {
-    let field = table::at(t, conditions::before(q));
-    let condition = table::at(t, q);
+    let field = records::at(t, conditions::before(q));
+    let condition = records::at(t, q);
     Record {
         kind: 12,
         marks: 0,
@@ -87,7 +87,7 @@ fn write_own(t: &[u8], a: usize, out: &mut [u8], c: usize) -> usize
     let mut n = c;
     let mut p = a;
     while p < end {
-        let r = table::at(t, p);
+        let r = records::at(t, p);
         if r.kind != 12 {
             return n;
         }
@@ -103,7 +103,7 @@ fn write_head(t: &[u8], p: usize, r: Record, out: &mut [u8], c: usize) -> usize
     ensures { λ n. ⌜ Appended (now (out .entry)) c (r ∷ conditionAt (decode (now (t .entry))) p) (now (out .exit)) n ⌝ }
 {
     let n = append(out, c, r);
-    let condition = table::at(t, p);
+    let condition = records::at(t, p);
     if condition.kind == 11 {
         return append(out, n, condition);
     }
@@ -133,7 +133,7 @@ fn write_at(t: &[u8], counts: &[u16], p: usize, a: usize, out: &mut [u8], c: usi
     requires { ⌜ Counted (decode (now t)) (now counts) (length (decode (now t))) × (length (decode (now t)) ≤ 1600) × (p < length (decode (now t))) × (a ≡ membersStart (decode (now t)) p) × Room (now out) c (desugaredAt (decode (now t)) p) ⌝ }
     ensures { λ n. ⌜ Appended (now (out .entry)) c (desugaredAt (decode (now (t .entry))) p) (now (out .exit)) n ⌝ }
 {
-    let r = table::at(t, p);
+    let r = records::at(t, p);
     if (r.kind == 11) | (r.kind == 12) {
         return c;
     }

@@ -15,7 +15,7 @@ ghost use Rattle.flag_sizes.specs.Counts.{Counted};
 fn loose_at(t: &[u8], q: usize) -> bool
     ensures { λ b. ⌜ b ≡ looseAt (decode (now (t .entry))) q ⌝ }
 {
-    let condition = table::at(t, q);
+    let condition = records::at(t, q);
     let field = table::kind(t, conditions::before(q));
     let named = kinds::is_named_field(field);
     let valued = condition.marks % 2 == 1;
@@ -61,7 +61,7 @@ pub fn desugar_flags(t: &[u8], out: &mut [u8]) -> Reply
 {
     match find_loose(t) {
         Found::At(q) => {
-            let field = table::at(t, conditions::before(q));
+            let field = records::at(t, conditions::before(q));
             Reply::Loose(FieldKey(field.key))
         }
         Found::Nothing => {

@@ -90,7 +90,7 @@ fn expand(
                 s = expand(t, targets, sizes, g, env, m, out, s);
             }
         } else if !bound {
-            let r = table::record(t, q);
+            let r = records::record(t, q);
             let x = inlined_record(t, &env[..n], r);
             s = add(out, s, x);
         }
@@ -119,7 +119,7 @@ pub fn write_all(
     while d < end {
         let q = d;
         d = q + 1;
-        let r = table::record(t, q);
+        let r = records::record(t, q);
         if is_kept(r.kind) {
             let first = add(out, s, Inlined { made: r, fit: true });
             s = expand(t, targets, sizes, q, env, 0, out, first);

@@ -54,7 +54,7 @@ fn sound_at(t: &[u8], p: usize, a: Around) -> bool
     requires { ⌜ (p < length (decode (now t))) × (a ≡ around (decode (now t)) p) ⌝ }
     ensures { λ r. ⌜ r ≡ soundAt (now (t .entry)) p ⌝ }
 {
-    let r = table::record(t, p);
+    let r = records::record(t, p);
     let i = table::base(t, p);
     spare_zero(t, i) & (rows::keeps_row(r) & stands_well(a, r.kind))
 }

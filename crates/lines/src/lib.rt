@@ -68,7 +68,7 @@ fn append_records(text: &mut [u8], at: usize, table: &[u8], n: usize) -> usize
     let mut p = at;
     let mut i = 0;
     while i < n {
-        p = append_record(text, p, table::record(table, i));
+        p = append_record(text, p, records::record(table, i));
         i += 1;
     }
     p

@@ -39,7 +39,7 @@ fn key_at(what: Key, t: &[u8], p: usize) -> u64
     match what {
         Key::FieldNames => table::name(t, p) as u64,
         Key::TagNames => table::name(t, p) as u64,
-        Key::TagValues => table::at(t, p).one,
+        Key::TagValues => records::at(t, p).one,
         Key::Sizes => table::second(t, p) as u64,
         Key::ElementSizes => table::second(t, p) as u64,
     }

@@ -1,7 +1,7 @@
 // Overlaps: neighbours among the sorted ranges of an enum that share a value.
-use bounds::greater;
-use bounds::lesser;
 use faults::Finding;
+use range::greater;
+use range::lesser;
 use repeats::when;
 use rules::Tally;
 ghost use mathlib.Core.Path.{_≡_};
@@ -16,8 +16,8 @@ ghost use Rattle.faults.specs.Notes.{findings, notedAll};
 fn overlap(t: &[u8], p: usize, q: usize) -> Finding
     ensures { λ r. ⌜ findings r ≡ overlap (decode (now (t .entry))) p q ⌝ }
 {
-    let r = table::at(t, p);
-    let s = table::at(t, q);
+    let r = records::at(t, p);
+    let s = records::at(t, q);
     when(
         (lesser(s) <= greater(r)) & (lesser(r) <= greater(s)),
         fault::double(41, s, r),

@@ -25,7 +25,10 @@ fn second_payload(t: &[u8], p: usize, found: Found) -> Finding
     ensures { λ r. ⌜ findings r ≡ secondPayload (decode (now (t .entry))) p found ⌝ }
 {
     match found {
-        Found::At(q) => when(q < p, fault::double(36, table::at(t, p), table::at(t, q))),
+        Found::At(q) => when(
+            q < p,
+            fault::double(36, records::at(t, p), records::at(t, q)),
+        ),
         Found::Nothing => Finding::Fine,
     }
 }
@@ -74,7 +77,7 @@ fn missing_payload(t: &[u8], parents: &[u8], d: usize) -> Finding
         return Finding::Fine;
     }
     match child_with_field(t, d) {
-        Found::At(_) => Finding::One(fault::single(37, table::at(t, d))),
+        Found::At(_) => Finding::One(fault::single(37, records::at(t, d))),
         Found::Nothing => Finding::Fine,
     }
 }

@@ -79,7 +79,7 @@ pub fn field_reference(t: &[u8], starts: &[u16], p: usize) -> Reference
     requires { ⌜ Starts (decode (now t)) (now starts) ⌝ }
     ensures { λ r. ⌜ r ≡ fieldReference (decode (now (t .entry))) p ⌝ }
 {
-    let r = table::at(t, p);
+    let r = records::at(t, p);
     if r.kind == 34 {
         return group_reference(t, p, decl_named(t, starts, r.second));
     }
@@ -97,7 +97,7 @@ pub fn own_reference(t: &[u8], starts: &[u16], d: usize) -> Reference
     requires { ⌜ Starts (decode (now t)) (now starts) ⌝ }
     ensures { λ r. ⌜ r ≡ ownReference (decode (now (t .entry))) d ⌝ }
 {
-    let r = table::at(t, d);
+    let r = records::at(t, d);
     if ((4 <= r.kind) & (r.kind <= 5)) & !(r.second == 0) {
         return parent_reference(t, d, decl_named(t, starts, r.second));
     }
@@ -109,7 +109,7 @@ pub fn root_reference(t: &[u8], starts: &[u16], p: usize) -> Reference
     requires { ⌜ Starts (decode (now t)) (now starts) ⌝ }
     ensures { λ r. ⌜ r ≡ rootReference (decode (now (t .entry))) p ⌝ }
 {
-    let r = table::at(t, p);
+    let r = records::at(t, p);
     if (1 <= r.kind) & (r.kind <= 6) {
         return Reference::Follow(p);
     }

@@ -28,11 +28,11 @@ fn repeated(code: u16, t: &[u8], p: usize, found: Found) -> Finding
 {
     match found {
         Found::At(q) => {
-            let s = table::at(t, q);
+            let s = records::at(t, q);
             if kinds::is_decl(s.kind) {
                 return Finding::Fine;
             }
-            Finding::One(fault::double(code, table::at(t, p), s))
+            Finding::One(fault::double(code, records::at(t, p), s))
         }
         Found::Nothing => Finding::Fine,
     }
@@ -52,7 +52,7 @@ fn target_of(what: Key, t: &[u8], p: usize) -> Target
     match what {
         Key::FieldNames => Target::NameOrDecl(table::name(t, p)),
         Key::TagNames => Target::TagOrDecl(table::name(t, p)),
-        Key::TagValues => Target::ValueOrDecl(table::at(t, p).one),
+        Key::TagValues => Target::ValueOrDecl(records::at(t, p).one),
         Key::Sizes => Target::SizeOrDecl(table::second(t, p)),
         Key::ElementSizes => Target::ElementSizeOrDecl(table::second(t, p)),
     }

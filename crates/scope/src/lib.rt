@@ -15,7 +15,7 @@ pub fn at_place(t: &[u8], starts: &[u16], p: usize) -> Finding
         return Finding::Fine;
     }
     match names::earlier(t, starts, p) {
-        Found::At(q) => Finding::One(fault::double(1, table::at(t, p), table::at(t, q))),
+        Found::At(q) => Finding::One(fault::double(1, records::at(t, p), records::at(t, q))),
         Found::Nothing => Finding::Fine,
     }
 }

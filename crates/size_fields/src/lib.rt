@@ -61,10 +61,10 @@ fn misnamed(code: u16, t: &[u8], p: usize, found: Found) -> Finding
     requires { ⌜ code + 2 < 65536 ⌝ }
     ensures { λ r. ⌜ findings r ≡ misnamed code (decode (now (t .entry))) p found ⌝ }
 {
-    let r = table::at(t, p);
+    let r = records::at(t, p);
     match found {
         Found::At(q) => {
-            let s = table::at(t, q);
+            let s = records::at(t, q);
             let k = s.kind;
             if kinds::is_decl(k) {
                 return Finding::One(fault::single(code + 1, r));
@@ -105,7 +105,7 @@ pub fn size_target(t: &[u8], places: &[u16], p: usize) -> Finding
     requires { ⌜ SizeStarts (decode (now t)) (now places) ⌝ }
     ensures { λ r. ⌜ findings r ≡ sizeTarget (decode (now (t .entry))) p ⌝ }
 {
-    let r = table::at(t, p);
+    let r = records::at(t, p);
     if !is_size(r.kind) {
         return Finding::Fine;
     }

@@ -1,9 +1,9 @@
 // The faults of one tag of an enum.
-use bounds::greater;
 use bounds::holders;
-use bounds::lesser;
 use faults::Finding;
 use marks::Key;
+use range::greater;
+use range::lesser;
 use repeats::again;
 use repeats::again_marked;
 use repeats::when;
@@ -30,7 +30,7 @@ fn range_found(t: &[u8], found: Found) -> Record
     ensures { λ r. ⌜ r ≡ rangeFound (decode (now (t .entry))) found ⌝ }
 {
     match found {
-        Found::At(q) => table::at(t, q),
+        Found::At(q) => records::at(t, q),
         Found::Nothing => Record {
             kind: 0,
             marks: 0,
@@ -70,7 +70,7 @@ fn note_value(
     requires { ⌜ (tally .total + 4 < 2 ^ 64) × Marked (decode (now t)) TagNames (now names) × Marked (decode (now t)) TagValues (now values) ⌝ }
     ensures { λ r. ⌜ log r (now (buffer .exit)) ≡ notedAll (log tally (now (buffer .entry))) (valueFaults (decode (now (t .entry))) low high p) ⌝ }
 {
-    let r = table::at(t, p);
+    let r = records::at(t, p);
     let v = r.one;
     let x = again_marked(12, t, Key::TagNames, p, names);
     let y = again_marked(13, t, Key::TagValues, p, values);
@@ -107,7 +107,7 @@ fn note_held(
     requires { ⌜ (n ≤ 1600) × (tally .total + 1601 < 2 ^ 64) × Bounds (decode (now t)) d n m (now lows) (now highs) ⌝ }
     ensures { λ r. ⌜ log r (now (buffer .exit)) ≡ notedAll (log tally (now (buffer .entry))) (held (decode (now (t .entry))) d n p) ⌝ }
 {
-    let r = table::at(t, p);
+    let r = records::at(t, p);
     let count = holders(lows, highs, m, r.one);
     note_times(fault::single(43, r), count, tally, buffer)
 }
@@ -117,7 +117,7 @@ fn note_range(t: &[u8], names: &[u8], most: u64, p: usize, tally: Tally, buffer:
     requires { ⌜ (tally .total + 4 < 2 ^ 64) × Marked (decode (now t)) TagNames (now names) ⌝ }
     ensures { λ r. ⌜ log r (now (buffer .exit)) ≡ notedAll (log tally (now (buffer .entry))) (rangeFaults (decode (now (t .entry))) most p) ⌝ }
 {
-    let r = table::at(t, p);
+    let r = records::at(t, p);
     let low = r.one;
     let high = r.two;
     let x = again_marked(12, t, Key::TagNames, p, names);
@@ -183,7 +183,7 @@ pub fn note_tag(
     requires { ⌜ (n ≤ 1600) × (tally .total + 1604 < 2 ^ 64) × Bounds (decode (now t)) d n m (now lows) (now highs) × Marked (decode (now t)) TagNames (now names) × Marked (decode (now t)) TagValues (now values) × (rangeBefore (decode (now t)) p ≡ rangeBefore (decode (now t)) after) ⌝ }
     ensures { λ r. ⌜ log r (now (buffer .exit)) ≡ notedAll (log tally (now (buffer .entry))) (tagFaults (decode (now (t .entry))) d n p) ⌝ }
 {
-    let most = widths::scalar_max(table::at(t, d).one);
+    let most = widths::scalar_max(records::at(t, d).one);
     match table::kind(t, p) {
         40 => {
             let kept = note_value(t, names, values, 0, most, p, tally, buffer);

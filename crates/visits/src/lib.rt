@@ -55,7 +55,7 @@ fn note(t: &[u8], buffer: &mut [u8], a: Progress, code: u16, p: usize) -> Progre
     requires { ⌜ a .tally .total + 1 < 2 ^ 64 ⌝ }
     ensures { λ r. ⌜ (r .listed ≡ a .listed) × (log (r .tally) (now (buffer .exit)) ≡ noted (log (a .tally) (now (buffer .entry))) (single code (at (decode (now (t .entry))) p))) ⌝ }
 {
-    let f = fault::single(code, table::at(t, p));
+    let f = fault::single(code, records::at(t, p));
     let before = a.tally;
     let tally = faults::noted(before, buffer, f);
     Progress {

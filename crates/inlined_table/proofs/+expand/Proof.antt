@@ -24,7 +24,7 @@ use Rattle.constraints.proofs.push_constraints.Reads as push-constraints-reads
 use Rattle.table.proofs.count.Reads as count-reads
 use Rattle.table.proofs.kind.Reads as kind-reads
 use Rattle.kinds.proofs.is_decl.Reads as is-decl-reads
-use Rattle.table.proofs.record.Reads as record-reads
+use Rattle.records.proofs.record.Reads as record-reads
 use Rattle.inlined_table.proofs.+expand.{statement}
 use Rattle.inlined_table.proofs.+expand.Tie.{close}
 

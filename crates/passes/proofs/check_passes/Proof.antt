@@ -1,13 +1,13 @@
--- `analyzer::check_passes` meets its contract: pass 1 finds faults, or writes nothing. Assumes nothing.
+-- `passes::check_passes` meets its contract: pass 1 finds faults, or writes nothing. Assumes nothing.
 use borrow.Author.Needs.{needs}
 use denote.Ref.{now}
 use mathlib.Core.Path.{sym, _∙_}
 use native.Mathlib.Omega.{arith}
 use Rattle.rules.specs.Table.{decode}
 use Rattle.rules.specs.Scopes.{pass1}
-use Rattle.analyzer.proofs.Laws.{total-is, no-fault, told, faulty-one}
-use Rattle.analyzer.proofs.check_passes.Statement.{statement}
-use Rattle.analyzer.proofs.check_passes.Tie as tie
+use Rattle.passes.proofs.Laws.{total-is, no-fault, told, faulty-one}
+use Rattle.passes.proofs.check_passes.Statement.{statement}
+use Rattle.passes.proofs.check_passes.Tie as tie
 
 returns : tie.Need-returns
 returns c =

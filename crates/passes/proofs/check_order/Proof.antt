@@ -1,4 +1,4 @@
--- `analyzer::check_order` meets its contract: pass 2 finds faults, or lists the table that the rest reads. Assumes nothing.
+-- `passes::check_order` meets its contract: pass 2 finds faults, or lists the table that the rest reads. Assumes nothing.
 use borrow.Author.Needs.{needs}
 use denote.Ref.{now}
 use native.Mathlib.Omega.{arith}
@@ -7,9 +7,9 @@ use Prim.Native.Nat.{_≤_}
 use lib.ListN.{length}
 use lib.Seq.{length-take-le}
 use Rattle.rules.specs.Table.{decode}
-use Rattle.analyzer.proofs.Laws.{faulty-order, listed-few, listed-ready, listed-answer}
-use Rattle.analyzer.proofs.check_order.Statement.{statement}
-use Rattle.analyzer.proofs.check_order.Tie as tie
+use Rattle.passes.proofs.Laws.{faulty-order, listed-few, listed-ready, listed-answer}
+use Rattle.passes.proofs.check_order.Statement.{statement}
+use Rattle.passes.proofs.check_order.Tie as tie
 
 few : (c : tie.After-struct-known2) → c .before .before .before .before .before .before .before .before .check-decl-identifiers .result .records ≤ length (decode (now (c .before .before .before .before .before .before .before .before .before .before .before .before .before .before .before .args .input)))
 few c = listed-few _ _ _ _ _ _ (c .before .before .before .before .before .before .before .before .check-decl-identifiers .ensures) (c .before .before .before .before .before .before .before .before .before .before .before .before .before .before .before .pre .2) (c .before .if1 .left)

@@ -1,8 +1,8 @@
--- `table::record` meets its contract. Assumes nothing.
+-- `records::record` meets its contract. Assumes nothing.
 use borrow.Author.Needs.{needs}
 use mathlib.Core.Path.{sym, ap}
-use Rattle.table.proofs.record.Statement.{statement}
-use Rattle.table.proofs.record.Tie as tie
+use Rattle.records.proofs.record.Statement.{statement}
+use Rattle.records.proofs.record.Tie as tie
 
 returns : tie.Need-returns
 returns c =

@@ -1,7 +1,7 @@
--- `search::holds` meets its contract: each arm is a clause of the definition. Assumes nothing.
+-- `targets::holds` meets its contract: each arm is a clause of the definition. Assumes nothing.
 use borrow.Author.Needs.{needs}
-use Rattle.search.proofs.holds.Statement.{statement}
-use Rattle.search.proofs.holds.Tie as tie
+use Rattle.targets.proofs.holds.Statement.{statement}
+use Rattle.targets.proofs.holds.Tie as tie
 
 pub holds-spec : {M : Type 1} → statement M
 holds-spec =

@@ -1,10 +1,10 @@
--- `analyzer::check_listed` meets its contract: one of passes 3 to 9 finds faults, or they write nothing. Assumes nothing.
+-- `passes::check_listed` meets its contract: one of passes 3 to 9 finds faults, or they write nothing. Assumes nothing.
 use borrow.Author.Needs.{needs}
 use denote.Ref.{now}
 use Rattle.rules.specs.Table.{decode}
-use Rattle.analyzer.proofs.Laws.{faulty-later, clean-later}
-use Rattle.analyzer.proofs.check_listed.Statement.{statement}
-use Rattle.analyzer.proofs.check_listed.Tie as tie
+use Rattle.passes.proofs.Laws.{faulty-later, clean-later}
+use Rattle.passes.proofs.check_listed.Statement.{statement}
+use Rattle.passes.proofs.check_listed.Tie as tie
 
 returns : tie.Need-returns
 returns c =
