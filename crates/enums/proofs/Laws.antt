@@ -15,9 +15,8 @@ use Rattle.rules.specs.declared.Record.{Record}
 use Rattle.rules.specs.declared.Found.{Found}
 use Rattle.rules.specs.declared.Found.the-variants.{At, Nothing}
 use Rattle.rules.specs.declared.Target.the-variants.{Decl}
-use Rattle.table.proofs.Laws.{each-more, each-few, first-in}
+use Rattle.table.proofs.Laws.{each-more, each-few, first-in, if-few, when-few}
 use Rattle.ranges.proofs.Sorts.{length-sorted}
-use Rattle.ranges.proofs.Laws.{if-few, when-few}
 use Rattle.overlaps.proofs.Laws.{overlap-few}
 use Rattle.tags.proofs.Laws.{tag-few}
 

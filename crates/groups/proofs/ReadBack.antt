@@ -10,14 +10,13 @@ use lib.Dec.{eqb, ltb}
 use borrow.Author.Tests.{ltb-true, ltb-false, le-ltb}
 use lib.ListN.{length, getD, take, drop, List·getD-eq-default}
 use lib.Seq.{take-at}
-use Rattle.rules.specs.Choice.{if_then_else_}
 use Rattle.rules.specs.Bytes.{numberAt}
 use Rattle.rules.specs.Table.{at, blank, recordAt, decode, encode, fieldKey}
 use Rattle.rules.specs.Places.{each, declNamed}
 use Rattle.rules.specs.Kinds.{isDecl}
 use Rattle.rules.specs.InlineGroups.{kept, fixedScalar, fixedEnum, lookup, under, inlinedRecord, isConstraintOrCondition, isKept, afterGroup, ownConstraints, groupFields, inlinedField, inlinedFields, expand, inlinedAt, inlined, recordOf, firstUnfit}
 use Rattle.rules.specs.Replies as replies
-use Rattle.rules.specs.Replies.{Answer, answered, flagged, bySize}
+use Rattle.rules.specs.Replies.{answered, flagged, bySize}
 use Rattle.rules.specs.declared.Record.{Record}
 use Rattle.rules.specs.declared.Inlined.{Inlined}
 use Rattle.rules.specs.declared.FieldKey.{FieldKey}

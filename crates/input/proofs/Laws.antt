@@ -1,14 +1,14 @@
 -- Bytes that stand for an input: made chunk by chunk, and answered as it would be. Assumes nothing.
-use Prim.Native.Nat.{ℕ, _+_, _-_, _*_, _/_, _%_, _<_, _≤_}
-use mathlib.Core.Path.{_≡_, refl, sym, ap, _∙_, subst}
+use Prim.Native.Nat.{ℕ, _+_, _-_, _%_, _<_, _≤_}
+use mathlib.Core.Path.{_≡_, refl, sym, ap, _∙_}
 use mathlib.Core.List.{List, _++_}
 use mathlib.Core.Bool.{Bool, true, false, not}
-use borrow.Author.Tests.{eq-eqb, ne-eqb, lt-ltb, le-leb, lt-leb, leb-true}
+use borrow.Author.Tests.{ne-eqb, lt-ltb, le-leb, lt-leb}
 use native.Mathlib.Omega.{arith}
 use native.Mathlib.Decide.{decLe, ℕ-discrete}
 use lib.ListN.{length, take, drop, length-append}
 use lib.Seq.{length-take-le, take-length, take-at}
-use lib.Dec.{eqb, leb, ltb}
+use lib.Dec.{eqb}
 use Rattle.rules.specs.Choice.{if_then_else_}
 use Rattle.rules.specs.Bytes.{written}
 use Rattle.rules.specs.Table.{decode}
@@ -16,7 +16,6 @@ use Rattle.rules.specs.Layouts.{layout, unsoundAt, ifFound}
 use Rattle.rules.specs.Places.{first}
 use Rattle.rules.specs.Replies.{Answer, answered, byLayout, answer}
 use Rattle.rules.specs.Printed.{printed, program}
-use Rattle.rules.specs.declared.Layout.{Layout}
 use Rattle.rules.specs.declared.Layout.the-variants as layouts
 use Rattle.rules.specs.declared.Reply.the-variants.{Uneven, TooLong}
 use Rattle.store.proofs.Laws.{length-written}

@@ -1,11 +1,11 @@
 -- Laws of the kinds around a place. Assumes nothing.
 use Prim.Native.Nat.{ℕ, zero, suc, _+_, _-_}
-use mathlib.Core.Path.{_≡_, refl, ap}
+use mathlib.Core.Path.{_≡_, refl}
 use mathlib.Core.List.{List}
 use mathlib.Core.Bool.{Bool, true, false}
 use native.Mathlib.Omega.{arith}
 use native.Mathlib.Numerals.{add-one}
-use borrow.Author.Tests.{lt-ltb, le-ltb}
+use borrow.Author.Tests.{le-ltb}
 use Rattle.rules.specs.Choice.{if_then_else_}
 use Rattle.rules.specs.Kinds.{isDecl}
 use Rattle.rules.specs.Table.{at}
@@ -14,7 +14,6 @@ use Rattle.rules.specs.Layouts.{foundKind, kindBefore}
 use Rattle.rules.specs.declared.Record.{Record}
 use Rattle.rules.specs.declared.Target.the-variants.{Decl}
 use Rattle.layout.specs.Surroundings.{kinds, around, after}
-use Rattle.layout.specs.declared.Around.{Around}
 
 pub around-start : (rs : List Record) → kinds 0 0 0 ≡ around rs 0
 unfolding around nearest foundKind kindBefore

@@ -1,11 +1,10 @@
 -- Laws of the marks: what a place adds to the keys that were seen. Assumes nothing.
-use Prim.Native.Nat.{ℕ, zero, suc, _+_, _%_, _<_}
+use Prim.Native.Nat.{ℕ, suc, _+_, _%_, _<_}
 use mathlib.Core.Path.{_≡_, refl, sym, _∙_}
-use mathlib.Core.List.{List, [], _∷_}
+use mathlib.Core.List.{List}
 use mathlib.Core.Bool.{Bool, true, false, _&&_, _||_}
 use native.Mathlib.Omega.{arith}
 use native.Mathlib.Numerals.{add-one}
-use native.Mathlib.Nat.{not-suc-le-zero, le-of-suc-le-suc}
 use borrow.Author.Tests.{eqb-true, eqb-false, leb-true, leb-false}
 use lib.Dec.{eqb, leb}
 use lib.ListN.{length, getD, set, replicate, length-replicate, getD-replicate, List·getD-eq-default}
@@ -66,12 +65,6 @@ module _ (rs : List Record) (what : Key) (p : ℕ) (seen : List ℕ) (stamp : �
       go : (b : Bool) → earlier rs what (keyOf what (at rs p)) p ≡ b → earlier rs what (keyOf what (at rs p)) p ≡ false
       go true e = absurd (h (s .known (keyOf what (at rs p)) e))
       go false e = e
-
--- within a list the default does not matter
-pub same-default : (l : List ℕ) (i d e : ℕ) → i < length l → getD l i d ≡ getD l i e
-same-default [] i d e h = absurd (not-suc-le-zero h)
-same-default (x ∷ l) zero d e h = refl
-same-default (x ∷ l) (suc i) d e h = same-default l i d e (le-of-suc-le-suc h)
 
 -- what stood there stays, or was written
 pub set-kept : (l : List ℕ) (i j x : ℕ) → i < length l → getD l j 0 ≡ x → getD (set l i x) j 0 ≡ x

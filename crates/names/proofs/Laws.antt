@@ -1,7 +1,7 @@
 -- The starts of searches, a place at a time. Assumes nothing.
-use Prim.Native.Nat.{ℕ, _+_, _-_, _%_, _<_, _≤_}
+use Prim.Native.Nat.{ℕ, _+_, _%_, _<_, _≤_}
 use mathlib.Core.Path.{_≡_, refl, sym, ap, _∙_}
-use mathlib.Core.Bool.{Bool, true, false, _&&_}
+use mathlib.Core.Bool.{false}
 use mathlib.Core.List.{List, []}
 use native.Mathlib.Omega.{arith}
 use native.Mathlib.Nat.{mod-lt}
@@ -12,7 +12,7 @@ use lib.ListN.{length, getD, set, replicate, getD-replicate}
 use lib.Seq.{getD-set-same, getD-set-other}
 use Rattle.rules.specs.Kinds.{isNamedDecl}
 use Rattle.rules.specs.Table.{at}
-use Rattle.rules.specs.Places.{nearest, first, holdsAt, firstFrom, declNamed}
+use Rattle.rules.specs.Places.{nearest, holdsAt, firstFrom, declNamed}
 use Rattle.rules.specs.declared.Record.{Record}
 use Rattle.rules.specs.declared.Found.the-variants.{Nothing}
 use Rattle.rules.specs.declared.Target.the-variants.{DeclNamed}

@@ -12,7 +12,6 @@ use Rattle.rules.specs.Faults.{Log, log, logged}
 use Rattle.rules.specs.DeclIdentifiers.{visited, faultOf, pass2, order, ordered, allRecords}
 use Rattle.rules.specs.Ordering.{Accepts}
 use Rattle.rules.specs.declared.Fault.{Fault}
-use Rattle.rules.specs.declared.Record.{Record}
 use Rattle.faults.specs.Notes.{none}
 use Rattle.faults.proofs.Laws.{noted-logged, total-after}
 use Rattle.visits.specs.declared.Progress.{Progress}

@@ -9,7 +9,7 @@ use lib.ListN.{length, getD, take, drop, length-append, length-drop, take-append
 use lib.Seq.{length-take-le, take-at, drop-at, take-suc, take-add, drop-append-le, getD-take}
 use Rattle.rules.specs.Bytes.{numberAt, written}
 use Rattle.rules.specs.Table.{recordAt, records, decode}
-use Rattle.rules.specs.Places.{first, holdsAt, firstFrom, memberCount}
+use Rattle.rules.specs.Places.{holdsAt, firstFrom, memberCount}
 use Rattle.rules.specs.DeclIdentifiers.{declRecords, allRecords}
 use Rattle.rules.specs.declared.Record.{Record}
 use Rattle.rules.specs.declared.Found.{Found}

@@ -10,7 +10,7 @@ use lib.ListN.{length, drop}
 use lib.Seq.{getD-take, getD-drop}
 use Rattle.rules.specs.Kinds.{isDecl}
 use Rattle.rules.specs.Table.{at, blank}
-use Rattle.rules.specs.Places.{first, holdsAt, firstFrom, memberCount}
+use Rattle.rules.specs.Places.{holdsAt, firstFrom, memberCount}
 use Rattle.rules.specs.DeclIdentifiers.{declRecords}
 use Rattle.rules.specs.declared.Record.{Record}
 use Rattle.rules.specs.declared.Found.{Found}

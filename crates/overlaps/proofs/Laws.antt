@@ -4,7 +4,7 @@ use mathlib.Core.List.{List}
 use lib.ListN.{length}
 use Rattle.rules.specs.EnumDeclarations.{overlap}
 use Rattle.rules.specs.declared.Record.{Record}
-use Rattle.ranges.proofs.Laws.{when-few}
+use Rattle.table.proofs.Laws.{when-few}
 
 pub overlap-few : (rs : List Record) (p q : ℕ) → length (overlap rs p q) ≤ 1
 unfolding overlap

@@ -12,7 +12,7 @@ use Rattle.rules.specs.Faults.{Log, log, logged}
 use Rattle.rules.specs.Scopes.{pass1}
 use Rattle.rules.specs.DeclIdentifiers.{pass2, ordered}
 use Rattle.rules.specs.InlineGroups.{inlined}
-use Rattle.rules.specs.Replies.{Answer, numbered, answered, faultsOf, findsFaults, answeredFaulty, bySize, byPass, byPasses, answer}
+use Rattle.rules.specs.Replies.{Answer, numbered, answered, faultsOf, findsFaults, answeredFaulty, bySize, byPass, byPasses}
 use Rattle.rules.specs.declared.Record.{Record}
 use Rattle.rules.specs.declared.Fault.{Fault}
 use Rattle.rules.specs.declared.Tally.{Tally}

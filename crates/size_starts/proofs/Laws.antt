@@ -12,15 +12,13 @@ use lib.ListN.{length, getD, set, replicate, length-replicate, getD-replicate, L
 use lib.Seq.{getD-set-same, getD-set-other}
 use Rattle.rules.specs.Kinds.{isDecl, isNamedField}
 use Rattle.rules.specs.Table.{at}
-use Rattle.rules.specs.Places.{nearest, first, holds, holdsAt, firstFrom, firstAfter, firstWithin}
+use Rattle.rules.specs.Places.{nearest, holds, holdsAt, firstFrom, firstAfter, firstWithin}
 use Rattle.rules.specs.SizeFields.{matching}
 use Rattle.rules.specs.declared.Record.{Record}
 use Rattle.rules.specs.declared.Found.the-variants.{At}
-use Rattle.rules.specs.declared.Target.{Target}
 use Rattle.rules.specs.declared.Target.the-variants.{Decl}
-use Rattle.table.proofs.Laws.{up-miss}
+use Rattle.table.proofs.Laws.{up-miss, same-default}
 use Rattle.table.proofs.Searches.{and-false, nearest-is}
-use Rattle.marks.proofs.Laws.{same-default}
 use Rattle.size_starts.specs.SizeStarts.{targetAt, SizeStarts, nameOf, startFor, Later}
 
 -- ---- nothing known

@@ -3,7 +3,7 @@
 // of the fault buffer) and the input.
 use libc::STDIN_FILENO;
 use libc::STDOUT_FILENO;
-ghost use Prim.Native.Nat.{_<_, _≤_};
+ghost use Prim.Native.Nat.{_<_};
 ghost use lib.ListN.{length};
 ghost use Rattle.stored.specs.Cases.{Fits};
 

@@ -20,8 +20,7 @@ use Rattle.rules.specs.declared.Found.{Found}
 use Rattle.rules.specs.declared.Found.the-variants.{At, Nothing}
 use Rattle.rules.specs.declared.Target.{Target}
 use Rattle.rules.specs.declared.Target.the-variants.{TagOrDecl, ValueOrDecl, DefaultOrDecl}
-use Rattle.table.proofs.Laws.{each-few}
-use Rattle.ranges.proofs.Laws.{if-few, when-few}
+use Rattle.table.proofs.Laws.{each-few, if-few, when-few}
 use Rattle.tags.specs.Before.{rangeBefore}
 
 repeated-few : (code : ℕ) (rs : List Record) (p : ℕ) (x : Found) → length (repeated code rs p x) ≤ 1

@@ -2,7 +2,7 @@
 use borrow.Author.Needs.{needs}
 use native.Mathlib.Omega.{arith}
 use borrow.Author.Tests.{eq-eqb, ne-eqb}
-use Prim.Native.Nat.{ℕ, _^_, _<_, _≤_, _-_}
+use Prim.Native.Nat.{ℕ, _^_, _<_, _≤_}
 use mathlib.Core.Path.{_≡_, refl, sym, ap, _∙_}
 use lib.ListN.{length}
 use mir.Val.{WT}

@@ -1,5 +1,4 @@
 -- `lines::kept` meets its contract. Assumes nothing.
-use borrow.Author.Needs.{needs}
 use mathlib.Core.Path.{sym}
 use native.Mathlib.Nat.{min-eq-left, min-eq-right, le-of-lt}
 use Rattle.lines.proofs.kept.Statement.{statement}

@@ -1,7 +1,7 @@
 -- `marks::mark_at` meets its contract. Assumes nothing.
 use borrow.Author.Needs.{needs}
 use lib.ListN.{List·getD-eq-default}
-use Rattle.marks.proofs.Laws.{same-default}
+use Rattle.table.proofs.Laws.{same-default}
 use mathlib.Core.Path.{sym}
 use denote.Ref.{now}
 use Rattle.marks.proofs.mark_at.Statement.{statement}

@@ -1,6 +1,6 @@
 -- `records::record` meets its contract. Assumes nothing.
 use borrow.Author.Needs.{needs}
-use mathlib.Core.Path.{sym, ap}
+use mathlib.Core.Path.{sym}
 use Rattle.records.proofs.record.Statement.{statement}
 use Rattle.records.proofs.record.Tie as tie
 

@@ -3,7 +3,7 @@ use borrow.Author.Needs.{needs}
 use lib.ListN.{List·getD-eq-default}
 use mathlib.Core.Path.{sym}
 use denote.Ref.{now}
-use Rattle.marks.proofs.Laws.{same-default}
+use Rattle.table.proofs.Laws.{same-default}
 use Rattle.size_fields.proofs.start_at.Statement.{statement}
 use Rattle.size_fields.proofs.start_at.Tie as tie
 
