@@ -2,7 +2,7 @@
  *
  * Build the library with `rt staticlib console` and link target/staticlib/libconsole.a (x86-64 Linux). It calls nothing but memcpy and
  * memset, keeps no state between calls, and takes no memory but the stack. The numbers of replies are those of numbered in
- * crates/rules/specs/Replies.antt and headerNumbers in crates/console/specs/Numbers.antt, which the contract of pdl_analyze cites.
+ * crates/rules/specs/Replies.antt and headerNumbers in crates/header/specs/Numbers.antt, which the contract of pdl_analyze cites.
  *
  * A table is records of 40 bytes, little endian: byte 0 kind, 1 marks, 2-3 name, 4-5 second name, 6-7 third name, 8-15 number one,
  * 16-23 number two, 24-25 key, 28-29 start and 32-33 end of the source location; all other bytes are zero.
