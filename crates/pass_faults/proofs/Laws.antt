@@ -1,7 +1,7 @@
 -- The faults of a pass, place by place. Assumes nothing.
-use Prim.Native.Nat.{ℕ, zero, suc, _+_, _≤_}
+use Prim.Native.Nat.{ℕ, _+_, _≤_}
 use mathlib.Core.Path.{_≡_, refl, ap, _∙_}
-use mathlib.Core.List.{List, [], _++_, append-nil}
+use mathlib.Core.List.{List, _++_}
 use mathlib.Core.Bool.{Bool, true, false}
 use native.Mathlib.Omega.{arith}
 use lib.ListN.{length}
@@ -25,11 +25,7 @@ use Rattle.faults.specs.Notes.{findings, notedAll}
 use Rattle.faults.specs.declared.Finding.{Finding}
 use Rattle.faults.proofs.Laws.{noted-total, noted-then}
 use Rattle.pass_faults.specs.Passes.{passAt, passFaults}
-
-each-none : (n : ℕ) → each {A = Fault} (λ p. []) n ≡ []
-unfolding each
-each-none zero = refl
-each-none (suc n) = append-nil _ ∙ each-none n
+use Rattle.pass_faults.proofs.Passed.{each-passed}
 
 -- a choice of what is listed at each place is a choice of lists
 each-if : (b : Bool) (f g : ℕ → List Fault) (n : ℕ) {ys : List Fault} → each g n ≡ ys → each (if b then f else g) n ≡ (if b then each f n else ys)
@@ -38,7 +34,7 @@ each-if false f g n h = h
 
 -- place by place, the faults of a pass are those of the rules
 pub pass-faults : (k : ℕ) (rs : List Record) → each (passAt k rs) (length rs) ≡ passFaults k rs
-unfolding passAt passFaults laterFaults pass1 pass3 pass4 pass5 pass6 pass7 pass8 pass9
+unfolding each passAt passFaults laterFaults pass1 pass3 pass4 pass5 pass6 pass7 pass8 pass9
 pass-faults k rs =
     let n : ℕ = length rs in
     each-if (eqb k 1) (pass1At rs) _ n
@@ -48,7 +44,7 @@ pass-faults k rs =
     (each-if (eqb k 6) (pass6At rs) _ n
     (each-if (eqb k 7) (pass7At rs) _ n
     (each-if (eqb k 8) (pass8At rs) _ n
-    (each-if (eqb k 9) (pass9At rs) _ n (each-none n))))))))
+    (each-if (eqb k 9) (pass9At rs) _ n (each-passed _ 0 n (omega arith) (λ i u v. refl)))))))))
 
 -- the faults of a place, noted: one finding, or two
 module _ (t : Tally) (b : List ℕ) (r : Tally) (l : List ℕ) (x : Finding) (fs : List Fault) (e : log r l ≡ notedAll (log t b) (findings x)) (h : findings x ≡ fs) where

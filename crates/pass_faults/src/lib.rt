@@ -4,14 +4,17 @@ use marks::Key;
 use rules::Tally;
 ghost use mathlib.Core.Path.{_≡_};
 ghost use mathlib.Core.Logic.{_⊎_};
-ghost use mathlib.Core.List.{[]};
-ghost use Prim.Native.Nat.{_+_, _^_, _<_, _≤_};
+ghost use mathlib.Core.List.{List, []};
+ghost use mathlib.Core.Bool.{false};
+ghost use Prim.Native.Nat.{ℕ, _+_, _^_, _<_, _≤_};
 ghost use lib.ListN.{length};
-ghost use Rattle.rules.specs.Table.{decode};
+ghost use Rattle.rules.specs.Table.{decode, at};
+ghost use Rattle.rules.specs.declared.Record.{Record};
 ghost use Rattle.rules.specs.Faults.{log, logged};
 ghost use Rattle.faults.specs.Notes.{findings, notedAll};
 ghost use Rattle.pass_faults.specs.Passes.{passAt, passFaults};
 ghost use Rattle.pass_faults.specs.Known.{Known};
+ghost use Rattle.pass_faults.specs.Passed.{isAmong, Passed};
 
 // What a pass finds at a place, where it is at most one fault.
 fn finding(pass: u8, t: &[u8], marks: &[u8], places: &[u16], p: usize) -> Finding
@@ -50,6 +53,39 @@ fn note_at(
     faults::note_found(once, buffer, size_fields::size_target(t, places, p))
 }
 
+// The kinds of the records that a pass looks at, a bit each.
+fn looked_at(pass: u8) -> u64
+    requires { ⌜ (pass ≡ 4 → ⊥) ⌝ }
+    ensures { λ kinds. ⌜ ((rs : List Record) (p : ℕ) → isAmong kinds (at rs p .kind) ≡ false → passAt pass rs p ≡ []) ⌝ }
+{
+    match pass {
+        1 => 0x7e, // 1 to 6: declarations with a name
+        3 => 0x3c0000000, // 30 to 33: fields with a name
+        5 => 0x1c00000, // 22 to 24: Size, Count and ElementSize
+        6 => 0x18000000, // 27 and 28: FixedScalar and FixedEnum
+        7 => 0x600007e, // 25 and 26, Body and Payload, beside those of pass 1
+        8 => 0x40000000, // 30: Array
+        9 => 0x200000, // 21: Padding
+        _ => 0,
+    }
+}
+
+// The first place from a on whose record is of one of these kinds, or the end of the table.
+fn next_of(t: &[u8], kinds: u64, a: usize) -> usize
+    requires { ⌜ a ≤ length (decode (now t)) ⌝ }
+    ensures { λ q. ⌜ Passed kinds (decode (now (t .entry))) a q ⌝ }
+{
+    let n = table::count(t);
+    let mut p = a;
+    while p < n {
+        if (kinds >> (table::kind(t, p) % 64)) % 2 == 1 {
+            return p;
+        }
+        p += 1;
+    }
+    p
+}
+
 // All faults of a pass other than 4, with what it asks for.
 fn run_places(
     pass: u8,
@@ -63,11 +99,12 @@ fn run_places(
     ensures { λ r. ⌜ log r (now (buffer .exit)) ≡ logged (now (buffer .entry)) (passFaults pass (decode (now (t .entry)))) ⌝ }
 {
     let n = table::count(t);
+    let kinds = looked_at(pass);
     let mut tally = faults::no_faults();
-    let mut p = 0;
+    let mut p = next_of(t, kinds, 0);
     while p < n {
         tally = note_at(pass, t, marks, more, places, p, tally, buffer);
-        p += 1;
+        p = next_of(t, kinds, p + 1);
     }
     tally
 }

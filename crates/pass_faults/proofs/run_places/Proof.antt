@@ -14,31 +14,38 @@ use Rattle.faults.proofs.Laws.{noted-start, noted-place, noted-end, noted-logge
 use Rattle.table.proofs.Laws.{length-decode}
 use Rattle.pass_faults.specs.Passes.{passAt}
 use Rattle.pass_faults.proofs.Laws.{pass-faults}
+use Rattle.pass_faults.proofs.Passed.{noted-passed}
 use Rattle.pass_faults.proofs.run_places.Statement.{statement}
 use Rattle.pass_faults.proofs.run_places.Tie as tie
 
 abbrev Inv-loop : tie.InvT-loop
-Inv-loop pass t marks more places buffer₀ n tally₀ p₀ buffer tally p =
+Inv-loop pass t marks more places buffer₀ n kinds tally₀ p₀ buffer tally p =
     (log tally buffer ≡ notedAll (log none buffer₀) (each (passAt pass (decode t)) p)) × (p ≤ n) × (n ≡ length (decode t)) × (length buffer ≡ length buffer₀) × (tally .total ≤ 2 * p)
 
 abbrev μ-loop : tie.MeasureT-loop
-μ-loop pass t marks more places buffer₀ n tally₀ p₀ buffer tally p = n - p
+μ-loop pass t marks more places buffer₀ n kinds tally₀ p₀ buffer tally p = n - p
 
 loop-holds : tie.Need-loop-holds Inv-loop μ-loop
 loop-holds c =
     let o = c .before in
-    (rw (c .no-faults .ensures) (noted-start _ _), search needs, o .count .ensures, refl, omega (arith, ap (λ (t : Tally). t .total) (c .no-faults .ensures)))
+    let k = o .before in
+    let n = k .before in
+    (noted-passed _ _ _ _ _ _ (c .next-of .ensures) (k .looked-at .ensures) (rw (o .no-faults .ensures) (noted-start _ _)), omega (arith, c .next-of .ensures .end, n .count .ensures), n .count .ensures, refl, omega (arith, ap (λ (t : Tally). t .total) (o .no-faults .ensures)))
 
 note-at-requires : tie.Need-note-at-requires Inv-loop μ-loop
 note-at-requires c κs =
-    let s = c .before .before .before .before .before .before .before .before .before .before in
+    let s = c .before .before .before .before .before .before .before .before .before .before .before .before in
     (s .pre .0, omega (arith, length-decode (now (s .args .t))), s .pre .1)
+
+loop-less : tie.Need-loop-less Inv-loop μ-loop
+loop-less c = omega (arith, c .next-of2 .ensures .start)
 
 loop-again : tie.Need-loop-again Inv-loop μ-loop
 loop-again c =
-    let n = c .before .before in
+    let n = c .before .before .before in
     let l = n .before .before .before in
-    (noted-place _ (l .loop .p) _ _ (l .loop .inv .0) refl (n .note-at .ensures .0), search needs, l .loop .inv .2, search needs, omega (arith, n .note-at .ensures .1))
+    let k = l .before .before .before in
+    (noted-passed _ _ _ _ _ _ (c .next-of2 .ensures) (k .looked-at .ensures) (noted-place _ (l .loop .p) _ _ (l .loop .inv .0) refl (n .note-at .ensures .0)), omega (arith, c .next-of2 .ensures .end, l .loop .inv .2), l .loop .inv .2, search needs, omega (arith, n .note-at .ensures .1, c .next-of2 .ensures .start))
 
 returns : tie.Need-returns Inv-loop μ-loop
 returns c =
@@ -49,5 +56,5 @@ pub run-places-spec : {M : Type 1} → statement M
 run-places-spec =
     tie.close
     (tie.spec
-    Inv-loop μ-loop (λ c κs. search needs) (λ c κs. search needs) loop-holds note-at-requires (λ c. search needs)
-    (λ c. search needs) loop-again (λ c. search needs) returns)
+    Inv-loop μ-loop (λ c κs. search needs) (λ c κs. search needs) (λ c κs. search needs) (λ c κs. search needs) loop-holds
+    note-at-requires (λ c. search needs) (λ c κs. search needs) loop-less loop-again (λ c. search needs) returns)
