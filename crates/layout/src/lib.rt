@@ -56,7 +56,10 @@ fn sound_at(t: &[u8], p: usize, a: Around) -> bool
 {
     let r = records::record(t, p);
     let i = table::base(t, p);
-    spare_zero(t, i) & (rows::keeps_row(r) & stands_well(a, r.kind))
+    if !spare_zero(t, i) {
+        return false;
+    }
+    rows::keeps_row(r) & stands_well(a, r.kind)
 }
 
 // The kinds around the next place, behind a record of kind k.
