@@ -21,8 +21,8 @@ use Rattle.flag_table.specs.Appended.{Room}
 
 -- what the code reads of a condition and of its field
 module _ (rs : List Record) (q : ℕ) {c : Record} (e : c ≡ at rs q) where
-  pub loose-as : {k : ℕ} {n : Bool} → k ≡ at rs (q - 1) .kind → n ≡ isNamedField k → (eqb (c .kind) 11 && not (n && eqb (c .marks % 2) 1)) ≡ looseAt rs q
-  loose-as f g = rw (g, f, e)
+  pub loose-as : {k : ℕ} {n : Bool} → at rs q .kind ≡ 11 → k ≡ at rs (q - 1) .kind → n ≡ isNamedField k → not (n && eqb (c .marks % 2) 1) ≡ looseAt rs q
+  loose-as h f g = rw (h, g, f, e)
 
 -- ---- the replies
 

@@ -15,11 +15,14 @@ ghost use Rattle.flag_sizes.specs.Counts.{Counted};
 fn loose_at(t: &[u8], q: usize) -> bool
     ensures { λ b. ⌜ b ≡ looseAt (decode (now (t .entry))) q ⌝ }
 {
+    if table::kind(t, q) != 11 {
+        return false;
+    }
     let condition = records::at(t, q);
     let field = table::kind(t, conditions::before(q));
     let named = kinds::is_named_field(field);
     let valued = condition.marks % 2 == 1;
-    (condition.kind == 11) & !(named & valued)
+    !(named & valued)
 }
 
 // The first such condition.
