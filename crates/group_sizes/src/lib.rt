@@ -7,7 +7,7 @@ ghost use lib.ListN.{length, getD};
 ghost use Rattle.rules.specs.Table.{decode, at};
 ghost use Rattle.rules.specs.Kinds.{isDecl};
 ghost use Rattle.rules.specs.InlineGroups.{isKept};
-ghost use Rattle.order.specs.GroupsFirst.{GroupsFirst};
+ghost use Rattle.references.specs.GroupsFirst.{GroupsFirst};
 ghost use Rattle.group_targets.specs.Targets.{Resolved};
 ghost use Rattle.group_sizes.specs.Sizes.{sizeHere, sizeFrom, Sized, totalSize};
 

@@ -1,3 +1,2 @@
 pub mod Reachability
 pub mod Contract
-pub mod GroupsFirst
