@@ -1,14 +1,19 @@
 -- `record_bytes::bytes_of` meets its contract. Assumes nothing.
 use mathlib.Core.Path.{refl}
-use Rattle.numbers.proofs.Parts.{low-byte}
+use Rattle.numbers.proofs.Parts.{low-byte, Bytewise, first}
 use Rattle.rules.specs.Bytes.{bytes}
 use Rattle.rules.specs.Table.{recordBytes}
 use Rattle.record_bytes.proofs.bytes_of.Statement.{statement}
 use Rattle.record_bytes.proofs.bytes_of.Tie as tie
 
 returns : tie.Need-returns
-unfolding recordBytes bytes
-returns c = refl
+unfolding recordBytes bytes Bytewise
+returns c =
+    first 8 _ _ (refl, (refl, (refl, (refl, (refl, (refl, (refl, (refl, tt))))))))
+    (first 8 _ _ (refl, (refl, (refl, (refl, (refl, (refl, (refl, (refl, tt))))))))
+    (first 8 _ _ (refl, (refl, (refl, (refl, (refl, (refl, (refl, (refl, tt))))))))
+    (first 8 _ _ (refl, (refl, (refl, (refl, (refl, (refl, (refl, (refl, tt))))))))
+    (first 8 _ _ (refl, (refl, (refl, (refl, (refl, (refl, (refl, (refl, tt)))))))) refl))))
 
 pub bytes-of-spec : {M : Type 1} → statement M
 bytes-of-spec =
