@@ -30,18 +30,19 @@ slice-aggregate-check-listed : tie.Need-slice-aggregate-check-listed
 slice-aggregate-check-listed c =
     sym (length-take-le _ _ (omega (arith, few (c .before), c .before .before .before .before .before .before .before .before .before .before .before .before .before .before .before .before .pre .1, c .before .before .before .before .before .before .before .before .before .check-decl-identifiers .kept .1 .1 .0)))
 
-check-listed-requires : tie.Need-check-listed-requires
-check-listed-requires c κs =
-    let i = c .before .before .before .before .before .before .before .before .before .before .before in
-    let s = i .before .before .before .before .before .before .before in
-    listed-ready _ _ _ _ _ _ (i .check-decl-identifiers .ensures) (s .pre .2) (c .before .before .before .before .if1 .left) (s .pre .0)
-
+-- the result before what it requires: a program that lists too little is refused here, and not only at what an empty table meets too
 returns-2 : tie.Need-returns-2
 returns-2 c =
     let i = c .before .before .before .before .before .before .before .before .before .before .before .before .before .before .before .before in
     let s = i .before .before .before .before .before .before .before in
     listed-answer _ _ _ _ _ _ (i .check-decl-identifiers .ensures) (s .pre .2) (c .before .before .before .before .before .before .before .before .before .if1 .left) (now (s .args .table))
     (c .before .before .before .before .check-listed .ensures)
+
+check-listed-requires : tie.Need-check-listed-requires
+check-listed-requires c κs =
+    let i = c .before .before .before .before .before .before .before .before .before .before .before in
+    let s = i .before .before .before .before .before .before .before in
+    listed-ready _ _ _ _ _ _ (i .check-decl-identifiers .ensures) (s .pre .2) (c .before .before .before .before .if1 .left) (s .pre .0)
 
 pub check-order-spec : {M : Type 1} → statement M
 check-order-spec =
