@@ -7,14 +7,8 @@ ghost use mathlib.Core.List.{_++_};
 ghost use Prim.Native.Nat.{_+_, _≤_};
 ghost use lib.ListN.{length, take};
 ghost use Rattle.rules.specs.Table.{decode};
-ghost use Rattle.rules.specs.InlineGroups.{isConstraintOrCondition, lookup, fixedScalar, fixedEnum, inlinedRecord};
+ghost use Rattle.rules.specs.InlineGroups.{lookup, fixedScalar, fixedEnum, inlinedRecord};
 ghost use Rattle.constraints.specs.Constraints.{constraintsFrom};
-
-pub fn is_constraint_or_condition(k: u8) -> bool
-    ensures { λ r. ⌜ r ≡ isConstraintOrCondition k ⌝ }
-{
-    (k == 10) | (k == 11)
-}
 
 // The constraint of name x that holds: of one name the innermost, then the last.
 fn lookup(t: &[u8], env: &[u16], x: u16) -> Found

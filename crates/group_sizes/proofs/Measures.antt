@@ -17,7 +17,7 @@ use Rattle.rules.specs.InlineGroups.{isKept, afterGroup}
 use Rattle.rules.specs.declared.Record.{Record}
 use Rattle.rules.specs.declared.Found.the-variants.{At}
 use Rattle.rules.specs.declared.Target.the-variants.{Decl}
-use Rattle.references.specs.GroupsFirst.{GroupsFirst}
+use Rattle.names.specs.GroupsFirst.{GroupsFirst}
 use Rattle.group_targets.specs.Targets.{Resolved}
 use Rattle.group_sizes.specs.Sizes.{sizeHere, sizeAt, fieldsSize, sizeFrom, totalSize, Sized}
 use Rattle.table.proofs.Searches.{false-true}

@@ -1,13 +1,13 @@
 // The sizes of declarations once their groups are inlined, by place.
-use constraints::is_constraint_or_condition;
+use kinds::is_constraint_or_condition;
+use kinds::is_kept;
 ghost use mathlib.Core.Path.{_≡_};
 ghost use mathlib.Core.Bool.{true};
 ghost use Prim.Native.Nat.{_+_, _<_, _≤_, min};
 ghost use lib.ListN.{length, getD};
 ghost use Rattle.rules.specs.Table.{decode, at};
 ghost use Rattle.rules.specs.Kinds.{isDecl};
-ghost use Rattle.rules.specs.InlineGroups.{isKept};
-ghost use Rattle.references.specs.GroupsFirst.{GroupsFirst};
+ghost use Rattle.names.specs.GroupsFirst.{GroupsFirst};
 ghost use Rattle.group_targets.specs.Targets.{Resolved};
 ghost use Rattle.group_sizes.specs.Sizes.{sizeHere, sizeFrom, Sized, totalSize};
 
@@ -74,13 +74,6 @@ pub fn measure(t: &[u8], targets: &[u16], sizes: &mut [u16])
             sizes[q] = saturated(s);
         }
     }
-}
-
-// Every declaration but a group stays.
-pub fn is_kept(k: u8) -> bool
-    ensures { λ r. ⌜ r ≡ isKept k ⌝ }
-{
-    ((1 <= k) & (k <= 7)) & !(k == 6)
 }
 
 // How many records the inlined table has, if that is at most 1,600.

@@ -19,7 +19,7 @@ use Rattle.rules.specs.declared.Found.the-variants.{At, Nothing}
 use Rattle.rules.specs.declared.Target.the-variants.{Decl, DeclNamed}
 use Rattle.table.proofs.Laws.{first-in}
 use Rattle.table.proofs.Searches.{and-true, first-is, named-is-decl}
-use Rattle.references.specs.GroupsFirst.{GroupsFirst}
+use Rattle.names.specs.GroupsFirst.{GroupsFirst}
 use Rattle.group_targets.specs.Targets.{Resolved}
 
 -- ---- the declaration that a group field names

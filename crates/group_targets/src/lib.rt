@@ -5,7 +5,7 @@ ghost use Prim.Native.Nat.{ℕ, _≤_};
 ghost use lib.ListN.{length};
 ghost use Rattle.rules.specs.Table.{decode};
 ghost use Rattle.names.specs.Starts.{Starts};
-ghost use Rattle.references.specs.GroupsFirst.{GroupsFirst};
+ghost use Rattle.names.specs.GroupsFirst.{GroupsFirst};
 ghost use Rattle.group_targets.specs.Targets.{Resolved};
 
 // The place of the first group field, or the end of the table: below it any targets are right.

@@ -15,7 +15,7 @@ use Rattle.rules.specs.declared.Record.{Record}
 use Rattle.rules.specs.declared.Inlined.{Inlined}
 use Rattle.rules.specs.declared.FieldKey.{FieldKey}
 use Rattle.store.proofs.Laws.{length-record, length-written, written-more}
-use Rattle.references.specs.GroupsFirst.{GroupsFirst}
+use Rattle.names.specs.GroupsFirst.{GroupsFirst}
 use Rattle.inlined_table.specs.declared.Progress.{Progress}
 use Rattle.inlined_table.specs.declared.Fit.{Fit}
 use Rattle.inlined_table.specs.declared.Fit.the-variants.{Fine, Unfit}

@@ -7,7 +7,7 @@ ghost use Prim.Native.Nat.{_≤_};
 ghost use lib.ListN.{length};
 ghost use Rattle.rules.specs.Table.{decode};
 ghost use Rattle.rules.specs.InlineGroups.{inlined};
-ghost use Rattle.references.specs.GroupsFirst.{GroupsFirst};
+ghost use Rattle.names.specs.GroupsFirst.{GroupsFirst};
 ghost use Rattle.groups.specs.Inlinings.{inlining, inliningNumbered, byFit, inliningBytes};
 
 // The answer of inlining: a row of the table of replies, or how many records the inlined table has.

@@ -19,7 +19,7 @@ use Rattle.rules.specs.declared.Record.{Record}
 use Rattle.rules.specs.declared.Inlined.{Inlined}
 use Rattle.rules.specs.declared.Found.the-variants.{At}
 use Rattle.rules.specs.declared.Target.the-variants.{Decl}
-use Rattle.references.specs.GroupsFirst.{GroupsFirst}
+use Rattle.names.specs.GroupsFirst.{GroupsFirst}
 use Rattle.inlined_table.specs.declared.Progress.{Progress}
 use Rattle.group_targets.specs.Targets.{Resolved}
 use Rattle.group_sizes.specs.Sizes.{sizeAt, fieldsSize, sizeFrom, Sized}

@@ -13,7 +13,7 @@ use Rattle.rules.specs.Kinds.{isDecl}
 use Rattle.rules.specs.InlineGroups.{isKept, inlinedAt, inlined}
 use Rattle.rules.specs.declared.Record.{Record}
 use Rattle.table.proofs.Searches.{and-true}
-use Rattle.references.specs.GroupsFirst.{GroupsFirst}
+use Rattle.names.specs.GroupsFirst.{GroupsFirst}
 use Rattle.group_targets.specs.Targets.{Resolved}
 use Rattle.group_sizes.specs.Sizes.{totalSize, Sized}
 use Rattle.inlined_table.proofs.Expands.{expand-size, min-sum}

@@ -14,7 +14,7 @@ use Rattle.rules.specs.declared.Record.{Record}
 use Rattle.rules.specs.declared.Inlined.{Inlined}
 use Rattle.rules.specs.declared.Found.the-variants.{At}
 use Rattle.rules.specs.declared.Target.the-variants.{Decl}
-use Rattle.references.specs.GroupsFirst.{GroupsFirst}
+use Rattle.names.specs.GroupsFirst.{GroupsFirst}
 use Rattle.inlined_table.specs.declared.Progress.{Progress}
 use Rattle.inlined_table.specs.declared.Fit.{Fit}
 use Rattle.inlined_table.specs.declared.Fit.the-variants.{Fine, Unfit}

@@ -1,8 +1,8 @@
 // The table with each group field replaced by the fields of its group, fixed as its constraints say, written record by record.
 use constraints::inlined_record;
-use constraints::is_constraint_or_condition;
 use constraints::push_constraints;
-use group_sizes::is_kept;
+use kinds::is_constraint_or_condition;
+use kinds::is_kept;
 use rules::FieldKey;
 use rules::Inlined;
 ghost use mathlib.Core.Path.{_≡_};

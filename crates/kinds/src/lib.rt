@@ -1,6 +1,7 @@
 // Groups of kinds.
 ghost use mathlib.Core.Path.{_≡_};
 ghost use Rattle.rules.specs.Kinds.{isDecl, isNamedDecl, isPacketOrStruct, holdsFields, isField, isNamedField, isSize, isSizeOrCount, isPayload, isTag, isValue};
+ghost use Rattle.rules.specs.InlineGroups.{isConstraintOrCondition, isKept};
 
 pub fn is_decl(k: u8) -> bool
     ensures { λ r. ⌜ r ≡ isDecl k ⌝ }
@@ -66,4 +67,17 @@ pub fn is_value(k: u8) -> bool
     ensures { λ r. ⌜ r ≡ isValue k ⌝ }
 {
     (k == 40) | (k == 42)
+}
+
+pub fn is_constraint_or_condition(k: u8) -> bool
+    ensures { λ r. ⌜ r ≡ isConstraintOrCondition k ⌝ }
+{
+    (k == 10) | (k == 11)
+}
+
+// Every declaration but a group stays.
+pub fn is_kept(k: u8) -> bool
+    ensures { λ r. ⌜ r ≡ isKept k ⌝ }
+{
+    ((1 <= k) & (k <= 7)) & !(k == 6)
 }

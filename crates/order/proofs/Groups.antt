@@ -20,7 +20,7 @@ use Rattle.rules.specs.Ordering.{Declared, Named, UniqueNames, HeldBy, by-group
 use Rattle.rules.specs.declared.Record.{Record}
 use Rattle.rules.specs.declared.Found.the-variants.{At}
 use Rattle.rules.specs.declared.Target.the-variants.{Decl, DeclNamed}
-use Rattle.references.specs.GroupsFirst.{Earlier, GroupsFirst}
+use Rattle.names.specs.GroupsFirst.{Earlier, GroupsFirst}
 use Rattle.table.proofs.Searches.{false-true, and-true, named-is-decl, first-only, nearest-is}
 use Rattle.order.proofs.Sorted.{mem-at}
 use Rattle.order.proofs.Promise.{promise}

@@ -27,7 +27,7 @@ use Rattle.checks.specs.declared.Checked as passes
 use Rattle.checks.specs.declared.Checked.the-variants as checked
 use Rattle.checks.proofs.Laws.{lowest-later}
 use Rattle.order.specs.Contract.{Ordered, Checked}
-use Rattle.references.specs.GroupsFirst.{GroupsFirst}
+use Rattle.names.specs.GroupsFirst.{GroupsFirst}
 use Rattle.order.specs.declared.Outcome as order
 use Rattle.order.proofs.Checks.{checked-total, checked-ordered}
 use Rattle.order.proofs.Names.{unique-names}

@@ -8,7 +8,7 @@ ghost use lib.ListN.{length};
 ghost use Rattle.rules.specs.Table.{decode};
 ghost use Rattle.rules.specs.Scopes.{pass1};
 ghost use Rattle.rules.specs.Replies.{answered, byPasses};
-ghost use Rattle.references.specs.GroupsFirst.{GroupsFirst};
+ghost use Rattle.names.specs.GroupsFirst.{GroupsFirst};
 ghost use Rattle.passes.specs.Listed.{byListed};
 
 // Passes 3 to 9, then the table.

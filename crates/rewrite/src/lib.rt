@@ -8,7 +8,7 @@ ghost use lib.ListN.{length};
 ghost use Rattle.rules.specs.Table.{decode};
 ghost use Rattle.rules.specs.InlineGroups.{inlined};
 ghost use Rattle.rules.specs.Replies.{answered, bySize};
-ghost use Rattle.references.specs.GroupsFirst.{GroupsFirst};
+ghost use Rattle.names.specs.GroupsFirst.{GroupsFirst};
 ghost use Rattle.rewrite.specs.Wrote.{Wrote};
 
 // What came of writing the table: a reply, or that the buffer is too short for the inlined table.

@@ -19,7 +19,7 @@ use Rattle.inlined_table.proofs.expand.Kinds as expand-kinds
 use Rattle.inlined_table.proofs.+expand.Lts-expand as expand-lts
 use Rattle.inlined_table.proofs.add.Reads as add-reads
 use Rattle.constraints.proofs.inlined_record.Reads as inlined-record-reads
-use Rattle.constraints.proofs.is_constraint_or_condition.Reads as is-constraint-or-condition-reads
+use Rattle.kinds.proofs.is_constraint_or_condition.Reads as is-constraint-or-condition-reads
 use Rattle.constraints.proofs.push_constraints.Reads as push-constraints-reads
 use Rattle.table.proofs.count.Reads as count-reads
 use Rattle.table.proofs.kind.Reads as kind-reads
