@@ -8,7 +8,7 @@ use lib.ListN.{length}
 use Rattle.rules.specs.Table.{at}
 use Rattle.rules.specs.declared.Record.{Record}
 
--- whether the bit of kind k is set in a number
+-- whether the bit of kind k is set in a number of 64 bits; kinds whose remainders by 64 are the same share a bit
 unfoldable pub isAmong : ℕ → ℕ → Bool
 isAmong kinds k = eqb (kinds / 2 ^ (k % 64) % 2) 1
 

@@ -1,6 +1,6 @@
 -- `fault::bytes_of` meets its contract. Assumes nothing.
 use mathlib.Core.Path.{refl}
-use Rattle.numbers.proofs.Parts.{low-byte, Bytewise, first}
+use Rattle.numbers.proofs.Parts.{low-byte, Bytewise, by-bytes}
 use Rattle.rules.specs.Bytes.{bytes}
 use Rattle.rules.specs.Faults.{faultBytes}
 use Rattle.fault.proofs.bytes_of.Statement.{statement}
@@ -9,9 +9,9 @@ use Rattle.fault.proofs.bytes_of.Tie as tie
 returns : tie.Need-returns
 unfolding faultBytes bytes Bytewise
 returns c =
-    first 4 _ _ (refl, (refl, (refl, (refl, tt))))
-    (first 8 _ _ (refl, (refl, (refl, (refl, (refl, (refl, (refl, (refl, tt))))))))
-    (first 8 _ _ (refl, (refl, (refl, (refl, (refl, (refl, (refl, (refl, tt)))))))) refl))
+    by-bytes 4 _ _ (refl, (refl, (refl, (refl, tt))))
+    (by-bytes 8 _ _ (refl, (refl, (refl, (refl, (refl, (refl, (refl, (refl, tt))))))))
+    (by-bytes 8 _ _ (refl, (refl, (refl, (refl, (refl, (refl, (refl, (refl, tt)))))))) refl))
 
 pub bytes-of-spec : {M : Type 1} → statement M
 bytes-of-spec =
