@@ -25,7 +25,7 @@ extern "C" {
 #define PDL_FAULT_BYTES 20    /* bytes of a fault */
 
 /* Enough stack for pdl_analyze. Measured, not proved: example.c, whose buffers are not on the stack, answers the deepest tables tried with
- * `ulimit -s 766` (KiB), and 1,600 packets in a parent chain not with 760. The caller's buffers come on top if they are on the stack. */
+ * `ulimit -s 766` (KiB), and 1,600 packets in a parent chain not with 756. The caller's buffers come on top if they are on the stack. */
 #define PDL_STACK_BYTES 1048576
 
 /* reply[0]: the row of the table of replies, from the top; the first that applies is given.
