@@ -5,7 +5,7 @@ use mathlib.Core.List.{List}
 use mathlib.Core.Bool.{Bool, true, false, _&&_, _||_}
 use native.Mathlib.Omega.{arith}
 use native.Mathlib.Numerals.{add-one}
-use borrow.Author.Tests.{eqb-true, eqb-false, leb-true, leb-false}
+use borrow.Author.Tests.{eqb-true, eqb-false, leb-true, leb-false, lt-leb}
 use lib.Dec.{eqb, leb}
 use lib.ListN.{length, getD, set, replicate, length-replicate, getD-replicate, List·getD-eq-default}
 use lib.Seq.{getD-set-same, getD-set-other}
@@ -13,7 +13,7 @@ use Rattle.rules.specs.Kinds.{isDecl}
 use Rattle.rules.specs.Table.{at}
 use Rattle.rules.specs.Places.{nearest, holds, foundInside}
 use Rattle.rules.specs.declared.Record.{Record}
-use Rattle.table.proofs.Searches.{false-true}
+use Rattle.table.proofs.Searches.{false-true, and-true, and-false}
 use Rattle.marks.specs.Marks.{selects, keyOf, targetOf, earlier, Marked, Stamped}
 use Rattle.marks.specs.declared.Key.{Key}
 use Rattle.marks.specs.declared.Key.the-variants.{FieldNames, TagNames, TagValues, Sizes, ElementSizes}
@@ -35,6 +35,21 @@ module _ (rs : List Record) (what : Key) (p : ℕ) where
   unfolding earlier nearest foundInside
   hit n e d = rw (add-one, nearest, e, foundInside, d)
 
+-- a record that has a key is no declaration
+not-decl : (k : ℕ) → 7 < k → isDecl k ≡ false
+not-decl k h = rw (lt-leb k 7 h) (and-false (leb 1 k))
+
+selected-not-decl : (what : Key) (k : ℕ) → selects what k ≡ true → isDecl k ≡ false
+selected-not-decl FieldNames k e = not-decl k (omega (arith, leb-true 30 k (and-true _ _ e .0)))
+selected-not-decl TagNames k e = not-decl k (omega (arith, leb-true 40 k (and-true _ _ e .0)))
+selected-not-decl TagValues k e = go (eqb k 40) refl
+  where
+    go : (b : Bool) → eqb k 40 ≡ b → isDecl k ≡ false
+    go true h = not-decl k (omega (arith, eqb-true k 40 h))
+    go false h = not-decl k (omega (arith, eqb-true k 42 (rw h at e)))
+selected-not-decl Sizes k e = not-decl k (omega (arith, leb-true 22 k (and-true _ _ e .0)))
+selected-not-decl ElementSizes k e = not-decl k (omega (arith, eqb-true k 24 e))
+
 -- before the first place
 pub stamped-start : (rs : List Record) (what : Key) (seen : List ℕ) (stamp : ℕ) → Stamped rs what seen stamp 0
 unfolding earlier nearest foundInside
@@ -50,13 +65,13 @@ module _ (rs : List Record) (what : Key) (p : ℕ) (seen : List ℕ) (stamp : �
   stamped-other s d e =
       record { known = λ n h. s .known n (sym (miss rs what p n (holds-as what n (at rs p) ∙ rw (d, e))) ∙ h) }
 
-  pub stamped-one : (seen′ : List ℕ) → Stamped rs what seen stamp p → isDecl (at rs p .kind) ≡ false → selects what (at rs p .kind) ≡ true
+  pub stamped-one : (seen′ : List ℕ) → Stamped rs what seen stamp p → selects what (at rs p .kind) ≡ true
       → getD seen′ (keyOf what (at rs p) % 4093) 0 ≡ stamp → ((j : ℕ) → getD seen j 0 ≡ stamp → getD seen′ j 0 ≡ stamp) → Stamped rs what seen′ stamp (p + 1)
-  stamped-one seen′ s d e here kept = record { known = λ n h. go n h (eqb (keyOf what (at rs p)) n) refl }
+  stamped-one seen′ s e here kept = record { known = λ n h. go n h (eqb (keyOf what (at rs p)) n) refl }
     where
       go : (n : ℕ) → earlier rs what n (p + 1) ≡ true → (b : Bool) → eqb (keyOf what (at rs p)) n ≡ b → getD seen′ (n % 4093) 0 ≡ stamp
       go n h true k = rw (← eqb-true (keyOf what (at rs p)) n k) here
-      go n h false k = kept (n % 4093) (s .known n (sym (miss rs what p n (holds-as what n (at rs p) ∙ rw (d, e, k))) ∙ h))
+      go n h false k = kept (n % 4093) (s .known n (sym (miss rs what p n (holds-as what n (at rs p) ∙ rw (selected-not-decl what (at rs p .kind) e, e, k))) ∙ h))
 
   -- a key that left no stamp is new
   pub new-key : Stamped rs what seen stamp p → (getD seen (keyOf what (at rs p) % 4093) 0 ≡ stamp → ⊥) → earlier rs what (keyOf what (at rs p)) p ≡ false

@@ -61,11 +61,13 @@ fn mark_place(t: &[u8], what: Key, stamp: u16, p: usize, seen: &mut [u16], marks
     ensures { λ r. ⌜ Marked (decode (now (t .entry))) what (now (marks .exit)) × Stamped (decode (now (t .entry))) what (now (seen .exit)) r (p + 1) ⌝ }
 {
     let k = table::kind(t, p);
-    if kinds::is_decl(k) {
-        return (p + 1) as u16;
-    }
     if !selects(what, k) {
-        return stamp;
+        // A choice of two numbers compiles to no branch; one on where declarations begin would be mispredicted often.
+        return if kinds::is_decl(k) {
+            (p + 1) as u16
+        } else {
+            stamp
+        };
     }
     // The divisor is prime: keys that are multiples of a power of two differ in their remainders.
     let h = (key_at(what, t, p) % 4093) as usize;
