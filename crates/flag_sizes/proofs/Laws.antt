@@ -52,6 +52,14 @@ of-named rs r a i = rw i
 pub of-other : (rs : List Record) (r : Record) (a : ℕ) → isNamedField (r .kind) ≡ false → [] ≡ entriesOf rs r a
 of-other rs r a i = rw i
 
+-- where no condition gives the name, whatever the kind
+pub of-none : (rs : List Record) (r : Record) (a : ℕ) → [] ≡ entriesFrom rs (r .name) a → [] ≡ entriesOf rs r a
+of-none rs r a e = go (isNamedField (r .kind)) refl
+  where
+    go : (b : Bool) → isNamedField (r .kind) ≡ b → [] ≡ entriesOf rs r a
+    go true i = e ∙ of-named rs r a i
+    go false i = of-other rs r a i
+
 pub of-few : (rs : List Record) (r : Record) (a : ℕ) → length (entriesOf rs r a) ≤ length rs
 of-few rs r a = go (isNamedField (r .kind)) refl
   where
