@@ -40,9 +40,6 @@ module _ (rs : List Record) where
       no (inr a) e f g = absurd (g (sym a ∙ e))
 
   module _ (marks more places : List ℕ) where
-    pub known-fields : Marked rs FieldNames marks → Known 3 rs marks more places
-    known-fields w = record { decls = λ e. absurd (omega arith); fields = λ e. w; sizes = λ e. absurd (omega arith); enums = λ e. absurd (omega arith); parents = λ e. absurd (omega arith) }
-
     pub known-sizes : Marked rs Sizes marks → Marked rs ElementSizes more → SizeStarts rs places → Known 5 rs marks more places
     known-sizes v w s = record { decls = λ e. absurd (omega arith); fields = λ e. absurd (omega arith); sizes = λ e. (v, w, s); enums = λ e. absurd (omega arith); parents = λ e. absurd (omega arith) }
 

@@ -1,5 +1,6 @@
 // All faults of a pass, by its number: pass 1, and passes 3 to 9, place by place.
 use faults::Finding;
+use field_identifiers::check_field_identifiers;
 use marks::Key;
 use rules::Tally;
 ghost use mathlib.Core.Path.{_≡_};
@@ -135,9 +136,8 @@ fn run_fields(t: &[u8], buffer: &mut [u8]) -> Tally
     ensures { λ r. ⌜ log r (now (buffer .exit)) ≡ logged (now (buffer .entry)) (passFaults 3 (decode (now (t .entry)))) ⌝ }
 {
     let mut marks = [1u8; 1600];
-    let places = [0u16; 0];
     marks::mark(t, Key::FieldNames, &mut marks);
-    run_places(3, t, &marks, &marks, &places, buffer)
+    check_field_identifiers(t, &marks, buffer)
 }
 
 // Pass 5 asks which sizes may repeat a name, and where to search for what they name.
