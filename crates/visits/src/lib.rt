@@ -1,8 +1,8 @@
 // The visits of pass 2: declarations are visited depth first, what they refer to is checked, and each is listed after
 // all that it follows.
-use references::field_reference;
-use references::own_reference;
-use references::root_reference;
+use decl_references::own_reference;
+use decl_references::root_reference;
+use field_references::field_reference;
 use rules::Reference;
 use rules::Tally;
 ghost use mathlib.Core.Path.{_≡_};

@@ -21,10 +21,10 @@ use Rattle.visits.proofs.walk.Kinds as walk-kinds
 use Rattle.visits.proofs.+visit+walk.Lts-walk as walk-lts
 use Rattle.visits.proofs.next_reference.Reads as next-reference-reads
 use Rattle.visits.proofs.member_at.Reads as member-at-reads
-use Rattle.references.proofs.field_reference.Reads as field-reference-reads
+use Rattle.field_references.proofs.field_reference.Reads as field-reference-reads
 use Rattle.visits.proofs.list.Reads as list-reads
 use Rattle.visits.proofs.note.Reads as note-reads
-use Rattle.references.proofs.own_reference.Reads as own-reference-reads
+use Rattle.decl_references.proofs.own_reference.Reads as own-reference-reads
 use Rattle.visits.proofs.+visit+walk.{statement}
 use Rattle.visits.proofs.+visit+walk.Tie.{close}
 

@@ -1,24 +1,19 @@
--- What a record refers to, a case at a time. Assumes nothing.
+-- What a declaration refers to, a case at a time. Assumes nothing.
 use Prim.Native.Nat.{ℕ}
 use mathlib.Core.Path.{_≡_}
 use mathlib.Core.Bool.{true, false, _&&_}
 use mathlib.Core.List.{List}
-use borrow.Author.Tests.{eqb-true, ne-eqb}
+use borrow.Author.Tests.{ne-eqb}
 use Rattle.rules.specs.Kinds as kind
-use Rattle.rules.specs.Kinds.{is, isNamedDecl, isPacketOrStruct}
-use Rattle.rules.specs.Table.{at, bit1, named}
+use Rattle.rules.specs.Kinds.{isNamedDecl, isPacketOrStruct}
+use Rattle.rules.specs.Table.{at, named}
 use Rattle.rules.specs.Places.{declNamed}
-use Rattle.rules.specs.DeclIdentifiers.{groupReference, typeReference, parentReference, testReference, fieldReference, ownReference, rootReference}
+use Rattle.rules.specs.DeclIdentifiers.{parentReference, testReference, ownReference, rootReference}
 use Rattle.rules.specs.declared.Record.{Record}
 use Rattle.rules.specs.declared.Found.{Found}
 use Rattle.rules.specs.declared.Reference.the-variants.{Nowhere, Follow}
-use Rattle.table.proofs.Searches.{and-true}
 
 module _ (rs : List Record) (p : ℕ) {r : Record} (e : r ≡ at rs p) where
-  pub field-nowhere : ¬ (r .kind ≡ kind.groupField) → ¬ (r .kind ≡ kind.typedef) → is kind.array r && named (r .second) ≡ false → Nowhere ≡ fieldReference rs p
-  unfolding fieldReference
-  field-nowhere g t a = rw (← e, ne-eqb (r .kind) kind.groupField g, ne-eqb (r .kind) kind.typedef t, a)
-
   pub own-nowhere : isPacketOrStruct (r .kind) && named (r .second) ≡ false → Nowhere ≡ ownReference rs p
   unfolding ownReference
   own-nowhere k = rw (← e, k)
@@ -32,20 +27,6 @@ module _ (rs : List Record) (p : ℕ) {r : Record} (e : r ≡ at rs p) where
   root-nowhere d k = rw (← e, d, ne-eqb (r .kind) kind.test k)
 
   module _ {f : Found} (h : f ≡ declNamed rs (r .second)) where
-    pub field-group : r .kind ≡ kind.groupField → groupReference rs p f ≡ fieldReference rs p
-    unfolding fieldReference
-    field-group k = rw (← e, h, k)
-
-    pub field-type : r .kind ≡ kind.typedef → typeReference true rs p f ≡ fieldReference rs p
-    unfolding fieldReference
-    field-type k = rw (← e, h, k)
-
-    pub field-array : is kind.array r && named (r .second) ≡ true → typeReference (bit1 r) rs p f ≡ fieldReference rs p
-    unfolding fieldReference
-    field-array a =
-        let b = and-true (is kind.array r) (named (r .second)) a in
-        rw (← e, h, eqb-true (r .kind) kind.array (b .0), b .1)
-
     pub own-parent : isPacketOrStruct (r .kind) && named (r .second) ≡ true → parentReference rs p f ≡ ownReference rs p
     unfolding ownReference
     own-parent k = rw (← e, h, k)

@@ -1,9 +1,9 @@
--- `references::type_reference` meets its contract. Assumes nothing.
+-- `field_references::type_reference` meets its contract. Assumes nothing.
 use borrow.Author.Needs.{needs}
 use borrow.Author.Tests.{eq-eqb, ne-eqb}
 use Rattle.rules.specs.DeclIdentifiers.{typeReference}
-use Rattle.references.proofs.type_reference.Statement.{statement}
-use Rattle.references.proofs.type_reference.Tie as tie
+use Rattle.field_references.proofs.type_reference.Statement.{statement}
+use Rattle.field_references.proofs.type_reference.Tie as tie
 
 returns : tie.Need-returns
 unfolding typeReference

@@ -1,9 +1,9 @@
--- `references::parent_reference` meets its contract. Assumes nothing.
+-- `decl_references::parent_reference` meets its contract. Assumes nothing.
 use borrow.Author.Needs.{needs}
 use borrow.Author.Tests.{eq-eqb, ne-eqb}
 use Rattle.rules.specs.DeclIdentifiers.{parentReference}
-use Rattle.references.proofs.parent_reference.Statement.{statement}
-use Rattle.references.proofs.parent_reference.Tie as tie
+use Rattle.decl_references.proofs.parent_reference.Statement.{statement}
+use Rattle.decl_references.proofs.parent_reference.Tie as tie
 
 returns : tie.Need-returns
 unfolding parentReference

@@ -1,9 +1,9 @@
--- `references::root_reference` meets its contract. Assumes nothing.
+-- `decl_references::root_reference` meets its contract. Assumes nothing.
 use borrow.Author.Needs.{needs}
 use mathlib.Core.Path.{_∙_}
-use Rattle.references.proofs.Refers.{root-decl, root-test, root-nowhere}
-use Rattle.references.proofs.root_reference.Statement.{statement}
-use Rattle.references.proofs.root_reference.Tie as tie
+use Rattle.decl_references.proofs.Refers.{root-decl, root-test, root-nowhere}
+use Rattle.decl_references.proofs.root_reference.Statement.{statement}
+use Rattle.decl_references.proofs.root_reference.Tie as tie
 
 returns : tie.Need-returns
 returns c = root-decl _ _ (c .before .before .before .at .ensures) (c .if1 .taken)

@@ -1,9 +1,9 @@
--- `references::field_reference` meets its contract. Assumes nothing.
+-- `field_references::field_reference` meets its contract. Assumes nothing.
 use borrow.Author.Needs.{needs}
 use mathlib.Core.Path.{_∙_}
-use Rattle.references.proofs.Refers.{field-group, field-type, field-array, field-nowhere}
-use Rattle.references.proofs.field_reference.Statement.{statement}
-use Rattle.references.proofs.field_reference.Tie as tie
+use Rattle.field_references.proofs.Refers.{field-group, field-type, field-array, field-nowhere}
+use Rattle.field_references.proofs.field_reference.Statement.{statement}
+use Rattle.field_references.proofs.field_reference.Tie as tie
 
 returns : tie.Need-returns
 returns c =

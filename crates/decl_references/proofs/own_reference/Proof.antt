@@ -1,9 +1,9 @@
--- `references::own_reference` meets its contract. Assumes nothing.
+-- `decl_references::own_reference` meets its contract. Assumes nothing.
 use borrow.Author.Needs.{needs}
 use mathlib.Core.Path.{_∙_}
-use Rattle.references.proofs.Refers.{own-parent, own-nowhere}
-use Rattle.references.proofs.own_reference.Statement.{statement}
-use Rattle.references.proofs.own_reference.Tie as tie
+use Rattle.decl_references.proofs.Refers.{own-parent, own-nowhere}
+use Rattle.decl_references.proofs.own_reference.Statement.{statement}
+use Rattle.decl_references.proofs.own_reference.Tie as tie
 
 returns : tie.Need-returns
 returns c =
