@@ -50,8 +50,8 @@ fn note_at(
     if pass != 5 {
         return faults::note_found(tally, buffer, finding(pass, t, marks, places, p));
     }
-    let once = faults::note_found(tally, buffer, size_fields::size_again(t, marks, more, p));
-    faults::note_found(once, buffer, size_fields::size_target(t, places, p))
+    let once = faults::note_found(tally, buffer, size_repeats::size_again(t, marks, more, p));
+    faults::note_found(once, buffer, size_targets::size_target(t, places, p))
 }
 
 // The kinds of the records that a pass looks at, a bit each.

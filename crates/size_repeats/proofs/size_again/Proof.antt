@@ -1,13 +1,13 @@
--- `size_fields::size_again` meets its contract. Assumes nothing.
+-- `size_repeats::size_again` meets its contract. Assumes nothing.
 use borrow.Author.Needs.{needs}
 use native.Mathlib.Omega.{arith}
 use borrow.Author.Tests.{not-true, not-false, eq-eqb, ne-eqb}
 use mathlib.Core.Path.{sym, _∙_}
 use Rattle.rules.specs.EnumDeclarations.{again}
 use Rattle.rules.specs.SizeFields.{sizeAgain}
-use Rattle.size_fields.proofs.Laws.{size-kind}
-use Rattle.size_fields.proofs.size_again.Statement.{statement}
-use Rattle.size_fields.proofs.size_again.Tie as tie
+use Rattle.size_repeats.proofs.Laws.{size-kind}
+use Rattle.size_repeats.proofs.size_again.Statement.{statement}
+use Rattle.size_repeats.proofs.size_again.Tie as tie
 
 returns : tie.Need-returns
 unfolding sizeAgain
@@ -29,6 +29,10 @@ returns-2 c =
     let k = i .before in
     rw (← k .kind .ensures, sym (i .is-size .ensures) ∙ not-false _ (f .if1 .left), ← o .size-code .ensures, eq-eqb _ 24 (e .if2 .taken)) (c .again-marked .ensures)
 
+-- written out, so that marks of another kind are named where they do not fit
+again-marked-requires-2 : tie.Need-again-marked-requires-2
+again-marked-requires-2 c κs = c .before .before .before .before .before .before .before .before .pre .0
+
 returns-3 : tie.Need-returns-3
 unfolding again sizeAgain
 returns-3 c =
@@ -44,4 +48,4 @@ size-again-spec =
     tie.close
     (tie.spec
     (λ c κs. search needs) (λ c κs. search needs) returns size-code-requires (λ c κs. search needs) returns-2
-    (λ c κs. search needs) returns-3)
+    again-marked-requires-2 returns-3)

@@ -1,8 +1,8 @@
--- `size_fields::size_code` meets its contract. Assumes nothing.
+-- `size_repeats::size_code` meets its contract. Assumes nothing.
 use borrow.Author.Needs.{needs}
 use mathlib.Core.Path.{refl}
-use Rattle.size_fields.proofs.size_code.Statement.{statement}
-use Rattle.size_fields.proofs.size_code.Tie as tie
+use Rattle.size_repeats.proofs.size_code.Statement.{statement}
+use Rattle.size_repeats.proofs.size_code.Tie as tie
 
 returns : tie.Need-returns
 returns c = refl

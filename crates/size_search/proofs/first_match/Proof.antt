@@ -1,9 +1,9 @@
--- `size_fields::first_match` meets its contract. Assumes nothing.
+-- `size_search::first_match` meets its contract. Assumes nothing.
 use borrow.Author.Needs.{needs}
 use mathlib.Core.Path.{_∙_}
-use Rattle.size_fields.proofs.Laws.{from-start}
-use Rattle.size_fields.proofs.first_match.Statement.{statement}
-use Rattle.size_fields.proofs.first_match.Tie as tie
+use Rattle.size_search.proofs.Laws.{from-start}
+use Rattle.size_search.proofs.first_match.Statement.{statement}
+use Rattle.size_search.proofs.first_match.Tie as tie
 
 returns-2 : tie.Need-returns-2
 returns-2 c =

@@ -1,9 +1,9 @@
--- `size_fields::misnamed` meets its contract: each way out is a case of the definition. Assumes nothing.
+-- `size_targets::misnamed` meets its contract: each way out is a case of the definition. Assumes nothing.
 use borrow.Author.Needs.{needs}
 use mathlib.Core.Path.{sym, _∙_}
 use Rattle.rules.specs.SizeFields.{misnamed}
-use Rattle.size_fields.proofs.misnamed.Statement.{statement}
-use Rattle.size_fields.proofs.misnamed.Tie as tie
+use Rattle.size_targets.proofs.misnamed.Statement.{statement}
+use Rattle.size_targets.proofs.misnamed.Tie as tie
 
 -- a declaration comes first
 returns : tie.Need-returns

@@ -1,12 +1,12 @@
--- `size_fields::size_target` meets its contract. Assumes nothing.
+-- `size_targets::size_target` meets its contract. Assumes nothing.
 use borrow.Author.Needs.{needs}
 use native.Mathlib.Omega.{arith}
 use borrow.Author.Tests.{not-true, not-false}
 use mathlib.Core.Path.{sym, _∙_}
 use Rattle.rules.specs.SizeFields.{sizeTarget}
-use Rattle.size_fields.proofs.Laws.{size-kind}
-use Rattle.size_fields.proofs.size_target.Statement.{statement}
-use Rattle.size_fields.proofs.size_target.Tie as tie
+use Rattle.size_repeats.proofs.Laws.{size-kind}
+use Rattle.size_targets.proofs.size_target.Statement.{statement}
+use Rattle.size_targets.proofs.size_target.Tie as tie
 
 returns : tie.Need-returns
 unfolding sizeTarget

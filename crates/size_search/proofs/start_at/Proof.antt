@@ -1,11 +1,11 @@
--- `size_fields::start_at` meets its contract. Assumes nothing.
+-- `size_search::start_at` meets its contract. Assumes nothing.
 use borrow.Author.Needs.{needs}
 use lib.ListN.{List·getD-eq-default}
 use mathlib.Core.Path.{sym}
 use denote.Ref.{now}
 use Rattle.table.proofs.Laws.{same-default}
-use Rattle.size_fields.proofs.start_at.Statement.{statement}
-use Rattle.size_fields.proofs.start_at.Tie as tie
+use Rattle.size_search.proofs.start_at.Statement.{statement}
+use Rattle.size_search.proofs.start_at.Tie as tie
 
 returns : tie.Need-returns
 returns c = let s = c .before .before in same-default (now (s .args .places)) (s .args .p) 0 65535 (c .before .if1 .taken)

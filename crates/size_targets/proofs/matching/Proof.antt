@@ -1,7 +1,7 @@
--- `size_fields::matching` meets its contract. Assumes nothing.
+-- `size_targets::matching` meets its contract. Assumes nothing.
 use borrow.Author.Tests.{eq-eqb, ne-eqb}
-use Rattle.size_fields.proofs.matching.Statement.{statement}
-use Rattle.size_fields.proofs.matching.Tie as tie
+use Rattle.size_targets.proofs.matching.Statement.{statement}
+use Rattle.size_targets.proofs.matching.Tie as tie
 
 returns : tie.Need-returns
 returns c = rw (eq-eqb _ 22 (c .if1 .taken))
