@@ -4,7 +4,7 @@ use rules::Tally;
 ghost use mathlib.Core.Path.{_≡_};
 ghost use Prim.Native.Nat.{_+_, _^_, _<_};
 ghost use Rattle.rules.specs.Faults.{log};
-ghost use Rattle.faults.specs.Notes.{none, tallied, findings, noted, notedAll};
+ghost use Rattle.faults.specs.Notes.{none, tallied, noted};
 
 // The length of a fault in bytes.
 pub const FAULT_LENGTH: usize = 20;
@@ -48,25 +48,4 @@ pub fn note(tally: &mut Tally, buffer: &mut [u8], f: Fault)
     let kept = tally.kept;
     let total = tally.total;
     *tally = keep(buffer, kept, total, f);
-}
-
-// The same, where the tally goes in and comes back by value.
-pub fn noted(t: Tally, buffer: &mut [u8], f: Fault) -> Tally
-    requires { ⌜ t .total + 1 < 2 ^ 64 ⌝ }
-    ensures { λ r. ⌜ log r (now (buffer .exit)) ≡ noted (log t (now (buffer .entry))) f ⌝ }
-{
-    let mut tally = t;
-    note(&mut tally, buffer, f);
-    tally
-}
-
-// What was found at a place, noted.
-pub fn note_found(t: Tally, buffer: &mut [u8], found: Finding) -> Tally
-    requires { ⌜ t .total + 1 < 2 ^ 64 ⌝ }
-    ensures { λ r. ⌜ log r (now (buffer .exit)) ≡ notedAll (log t (now (buffer .entry))) (findings found) ⌝ }
-{
-    match found {
-        Finding::One(f) => noted(t, buffer, f),
-        Finding::Fine => t,
-    }
 }

@@ -31,7 +31,7 @@ fn note_at(t: &[u8], names: &[u8], p: usize, tally: Tally, buffer: &mut [u8]) ->
     if !(marked & named) {
         return tally;
     }
-    faults::note_found(tally, buffer, at_place(t, names, p))
+    notes::note_found(tally, buffer, at_place(t, names, p))
 }
 
 // All faults of the pass.

@@ -32,7 +32,7 @@ pub fn note_overlaps(t: &[u8], s: &[u16], m: usize, tally: Tally, buffer: &mut [
     let mut kept = tally;
     let mut j = 0;
     while j + 1 < m {
-        kept = faults::note_found(kept, buffer, overlap(t, s[j] as usize, s[j + 1] as usize));
+        kept = notes::note_found(kept, buffer, overlap(t, s[j] as usize, s[j + 1] as usize));
         j += 1;
     }
     kept

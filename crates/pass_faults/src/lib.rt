@@ -48,10 +48,10 @@ fn note_at(
     ensures { λ r. ⌜ (log r (now (buffer .exit)) ≡ notedAll (log tally (now (buffer .entry))) (passAt pass (decode (now (t .entry))) p)) × (r .total ≤ tally .total + 2) ⌝ }
 {
     if pass != 5 {
-        return faults::note_found(tally, buffer, finding(pass, t, marks, places, p));
+        return notes::note_found(tally, buffer, finding(pass, t, marks, places, p));
     }
-    let once = faults::note_found(tally, buffer, size_repeats::size_again(t, marks, more, p));
-    faults::note_found(once, buffer, size_targets::size_target(t, places, p))
+    let once = notes::note_found(tally, buffer, size_repeats::size_again(t, marks, more, p));
+    notes::note_found(once, buffer, size_targets::size_target(t, places, p))
 }
 
 // The kinds of the records that a pass looks at, a bit each.

@@ -51,9 +51,9 @@ fn note_three(tally: Tally, buffer: &mut [u8], x: Finding, y: Finding, z: Findin
     requires { ⌜ tally .total + 4 < 2 ^ 64 ⌝ }
     ensures { λ r. ⌜ log r (now (buffer .exit)) ≡ notedAll (log tally (now (buffer .entry))) (findings x ++ findings y ++ findings z) ⌝ }
 {
-    let a = faults::note_found(tally, buffer, x);
-    let b = faults::note_found(a, buffer, y);
-    faults::note_found(b, buffer, z)
+    let a = notes::note_found(tally, buffer, x);
+    let b = notes::note_found(a, buffer, y);
+    notes::note_found(b, buffer, z)
 }
 
 // A value within bounds: 12, 13, 14.
@@ -86,7 +86,7 @@ fn note_times(f: Fault, times: usize, tally: Tally, buffer: &mut [u8]) -> Tally
     let mut kept = tally;
     let mut j = 0;
     while j < times {
-        kept = faults::note_found(kept, buffer, Finding::One(f));
+        kept = notes::note_found(kept, buffer, Finding::One(f));
         j += 1;
     }
     kept

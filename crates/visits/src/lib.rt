@@ -57,7 +57,7 @@ fn note(t: &[u8], buffer: &mut [u8], a: Progress, code: u16, p: usize) -> Progre
 {
     let f = fault::single(code, records::at(t, p));
     let before = a.tally;
-    let tally = faults::noted(before, buffer, f);
+    let tally = notes::noted(before, buffer, f);
     Progress {
         listed: a.listed,
         tally,

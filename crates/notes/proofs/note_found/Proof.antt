@@ -1,9 +1,9 @@
--- `faults::note_found` meets its contract. Assumes nothing.
+-- `notes::note_found` meets its contract. Assumes nothing.
 use borrow.Author.Needs.{needs}
 use mathlib.Core.Path.{_∙_}
 use Rattle.faults.proofs.Laws.{noted-none, noted-one}
-use Rattle.faults.proofs.note_found.Statement.{statement}
-use Rattle.faults.proofs.note_found.Tie as tie
+use Rattle.notes.proofs.note_found.Statement.{statement}
+use Rattle.notes.proofs.note_found.Tie as tie
 
 returns : tie.Need-returns
 returns c =

@@ -1,4 +1,4 @@
--- `faults::noted` meets its contract: a walk of its MIR, by hand. The tally is copied to a local, which is lent to `note` for a lifetime that is made
+-- `notes::noted` meets its contract: a walk of its MIR, by hand. The tally is copied to a local, which is lent to `note` for a lifetime that is made
 -- for the call, and taken back at its last value; the slice goes to `note` for good, at its own lifetime, share and name.
 -- All that the proof knows of `note` is that it meets its contract.
 -- Assumes nothing.
@@ -47,21 +47,21 @@ use denote.Triple.Walked.{says, needs, Stays, stay-none, gave-slice, walkOf, goe
 use denote.Exit.{yes}
 use denote.Signature.{plain}
 use Rattle.rules.specs.Faults.{log}
 use Rattle.faults.specs.Notes.{noted}
 use Rattle.rules.specs.declared.Tally.{Tally}
 use Rattle.rules.specs.declared.Fault.{Fault}
 use Rattle.rules.proofs.Tally as T
 use Rattle.rules.proofs.Tally.Laws as T′
 use Rattle.rules.proofs.Fault as F
 use Rattle.rules.proofs.Fault.Laws as F′
 use Rattle.faults.proofs.note as note
 use Rattle.faults.proofs.note.Symbol as note-def
 use Rattle.faults.proofs.note.Symbol.{name as #faults·note}
 use Rattle.faults.proofs.note.Met as note-thm
-use Rattle.faults.proofs.noted.Key.{name as #faults·noted}
-use Rattle.faults.proofs.noted as this
-use Rattle.faults.proofs.noted.Statement as stated
-use Rattle.faults.proofs.noted.Code as code
+use Rattle.notes.proofs.noted.Key.{name as #notes·noted}
+use Rattle.notes.proofs.noted as this
+use Rattle.notes.proofs.noted.Statement as stated
+use Rattle.notes.proofs.noted.Code as code
 
 abbrev R : RattleType
 R = T.the-row
@@ -235,6 +235,6 @@ pub noted-spec : {M : Type 1} → stated.statement M
 unfolding code.routine tablesOf
 noted-spec 𝓤 H 𝓜 𝓖 𝓡 =
     entered 𝓤 H (tripleOf 𝓤 H (𝓖 .A) this.signature (this.spec 𝓤 H (𝓖 .A) (𝓜 .mem) (𝓡 .run)))
-    (tables 𝓤 H 𝓜 𝓡 code.env .C) (tables 𝓤 H 𝓜 𝓡 code.env .Λ) #faults·noted code.function (code.unfolded 𝓤 H 𝓜 𝓡)
+    (tables 𝓤 H 𝓜 𝓡 code.env .C) (tables 𝓤 H 𝓜 𝓡 code.env .Λ) #notes·noted code.function (code.unfolded 𝓤 H 𝓜 𝓡)
     (noted-meets 𝓤 H (𝓖 .A) (givenOf 𝓤 H 𝓜 𝓖) (𝓜 .mem) (𝓡 .run) (tablesOf 𝓤 H 𝓜 (tables 𝓤 H 𝓜 𝓡 code.env))
     (cited 𝓤 H (Note 𝓤 H (𝓖 .A) (𝓜 .mem) (𝓡 .run)) 𝓜 𝓡 code.env #faults·note note-def.routine code.calls-faults·note (note-thm.met 𝓤 H 𝓜 𝓖 𝓡)))
