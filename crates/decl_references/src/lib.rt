@@ -1,5 +1,5 @@
 // What a declaration refers to by a name, its parent or the packet of a test: nothing, a fault, or a declaration to visit.
-use names::decl_named;
+use declarations::decl_named;
 use rules::Found;
 use rules::Reference;
 ghost use mathlib.Core.Path.{_≡_};

@@ -1,5 +1,5 @@
 // What a field refers to by a name: nothing, a fault, or a declaration to visit.
-use names::decl_named;
+use declarations::decl_named;
 use rules::Found;
 use rules::Reference;
 ghost use mathlib.Core.Path.{_≡_};

@@ -40,7 +40,7 @@ pub fn at_place(t: &[u8], starts: &[u16], p: usize) -> Finding
         return when(r.one < widths::bit_width(r.two), fault::single(32, r));
     }
     if k == 28 {
-        return enum_fault(t, p, names::decl_named(t, starts, r.second));
+        return enum_fault(t, p, declarations::decl_named(t, starts, r.second));
     }
     Finding::Fine
 }

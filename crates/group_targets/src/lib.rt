@@ -36,7 +36,7 @@ fn resolve_from(t: &[u8], starts: &[u16], a: usize, targets: &mut [u16])
         p = q + 1;
         if table::kind(t, q) == 34 {
             let x = table::second(t, q);
-            if let Found::At(g) = names::decl_named(t, starts, x) {
+            if let Found::At(g) = declarations::decl_named(t, starts, x) {
                 targets[q] = g as u16;
             }
         }

@@ -12,12 +12,12 @@ use lib.ListN.{length, getD, set, replicate, getD-replicate}
 use lib.Seq.{getD-set-same, getD-set-other}
 use Rattle.rules.specs.Kinds.{isNamedDecl}
 use Rattle.rules.specs.Table.{at}
-use Rattle.rules.specs.Places.{nearest, holdsAt, firstFrom, declNamed}
+use Rattle.rules.specs.Places.{holdsAt, firstFrom}
 use Rattle.rules.specs.declared.Record.{Record}
 use Rattle.rules.specs.declared.Found.the-variants.{Nothing}
 use Rattle.rules.specs.declared.Target.the-variants.{DeclNamed}
 use Rattle.table.proofs.Laws.{up-miss, up-end}
-use Rattle.table.proofs.Searches.{and-false, none-below}
+use Rattle.table.proofs.Searches.{and-false}
 use Rattle.names.specs.Starts.{StartsFrom, Starts}
 
 module _ (rs : List Record) where
@@ -52,11 +52,3 @@ module _ (rs : List Record) where
             let d : eqb (at rs p .name) x ≡ false = ne-eqb (at rs p .name) x (λ q. h (ap (λ (i : ℕ). i % 4093) (sym q ∙ sym e))) in
             let m : holdsAt rs (DeclNamed x) p ≡ false = rw d (and-false (isNamedDecl (at rs p .kind))) in
             up-miss (holdsAt rs (DeclNamed x)) p (length rs) p refl l m ∙ w .skips x ∙ ap (firstFrom rs (DeclNamed x)) (sym (getD-set-other starts (y % 4093) (x % 4093) p 0 h))
-
-  module _ {starts : List ℕ} (w : Starts rs starts) where
-    pub named-from : (x s : ℕ) → s ≡ getD starts (x % 4093) 0 → firstFrom rs (DeclNamed x) s ≡ declNamed rs x
-    unfolding declNamed
-    named-from x s e = sym (w .skips x ∙ ap (firstFrom rs (DeclNamed x)) (sym e))
-
-    pub none-earlier : (x p : ℕ) → p < length rs → p ≡ getD starts (x % 4093) 0 → nearest (holdsAt rs (DeclNamed x)) p ≡ Nothing
-    none-earlier x p l e = none-below (holdsAt rs (DeclNamed x)) (length rs) p (omega arith) (w .skips x ∙ ap (firstFrom rs (DeclNamed x)) (sym e))

@@ -14,7 +14,7 @@ pub fn at_place(t: &[u8], starts: &[u16], p: usize) -> Finding
     if !kinds::is_named_decl(table::kind(t, p)) {
         return Finding::Fine;
     }
-    match names::earlier(t, starts, p) {
+    match declarations::earlier(t, starts, p) {
         Found::At(q) => Finding::One(fault::double(1, records::at(t, p), records::at(t, q))),
         Found::Nothing => Finding::Fine,
     }

@@ -1,11 +1,11 @@
--- `names::earlier` meets its contract. Assumes nothing.
+-- `declarations::earlier` meets its contract. Assumes nothing.
 use borrow.Author.Needs.{needs}
 use borrow.Author.Tests.{eqb-true, ltb-true}
 use mathlib.Core.Path.{sym, _∙_}
 use Rattle.table.proofs.Searches.{and-true}
-use Rattle.names.proofs.Laws.{none-earlier}
-use Rattle.names.proofs.earlier.Statement.{statement}
-use Rattle.names.proofs.earlier.Tie as tie
+use Rattle.declarations.proofs.Laws.{none-earlier}
+use Rattle.declarations.proofs.earlier.Statement.{statement}
+use Rattle.declarations.proofs.earlier.Tie as tie
 
 returns : tie.Need-returns
 returns c =

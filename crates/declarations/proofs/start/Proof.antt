@@ -1,11 +1,11 @@
--- `names::start` meets its contract. Assumes nothing.
+-- `declarations::start` meets its contract. Assumes nothing.
 use borrow.Author.Needs.{needs}
 use mir.Facts.{fits-widen}
 use mathlib.Core.Path.{sym}
 use denote.Ref.{now}
 use lib.ListN.{List·getD-eq-default}
-use Rattle.names.proofs.start.Statement.{statement}
-use Rattle.names.proofs.start.Tie as tie
+use Rattle.declarations.proofs.start.Statement.{statement}
+use Rattle.declarations.proofs.start.Tie as tie
 
 cast-result : tie.Need-cast-result
 cast-result c = fits-widen tt (c .shared-slice-known .given _)

@@ -1,9 +1,9 @@
--- `names::decl_named` meets its contract. Assumes nothing.
+-- `declarations::decl_named` meets its contract. Assumes nothing.
 use borrow.Author.Needs.{needs}
 use mathlib.Core.Path.{_∙_}
-use Rattle.names.proofs.Laws.{named-from}
-use Rattle.names.proofs.decl_named.Statement.{statement}
-use Rattle.names.proofs.decl_named.Tie as tie
+use Rattle.declarations.proofs.Laws.{named-from}
+use Rattle.declarations.proofs.decl_named.Statement.{statement}
+use Rattle.declarations.proofs.decl_named.Tie as tie
 
 returns : tie.Need-returns
 returns c = c .first .ensures ∙ named-from _ (c .before .before .before .before .pre) _ _ (c .before .start .ensures)
