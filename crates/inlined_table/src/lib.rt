@@ -90,9 +90,7 @@ fn expand(
                 s = expand(t, targets, sizes, g, env, m, out, s);
             }
         } else if !bound {
-            let r = records::record(t, q);
-            let x = inlined_record(t, &env[..n], r);
-            s = add(out, s, x);
+            s = add(out, s, inlined_record(t, &env[..n], records::record(t, q)));
         }
     }
     s

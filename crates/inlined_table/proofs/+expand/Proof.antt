@@ -119,7 +119,7 @@ loop-again-2 t c =
     (turn-empty (i .before .before .before .before .before .before .before .before .before .before .before .before .pre .1) (i .before .before .before .before .before .loop .inv .0) (h .below) (h .inside) (seen-flag h _) (seen-group h (c .before .before .before .if2 .taken)) (c .if3 .left), i .before .before .before .before .before .loop .inv .1)
 
 record-requires : (t : ℕ) → expand-lts.Need-record-requires (claims t) (expand-at t) expand.Post Inv-loop μ-loop
-record-requires t c κs = seen t (c .before .before) .below
+record-requires t c κs = seen t (c .before .before .before .before) .below
 
 slice-reshare-prefix-inlined-record : (t : ℕ) → expand-lts.Need-slice-reshare-prefix-inlined-record (claims t) (expand-at t) expand.Post Inv-loop μ-loop
 slice-reshare-prefix-inlined-record t c = let i = c .before .before .before in env-stack (i .before .before .before .before .before .before .before .before .before .before .before .before .pre .1) (i .before .before .before .before .before .loop .inv .0)
@@ -138,7 +138,7 @@ loop-again-3 t c =
     let i = c .before .before .before .before .before .before .before .before .before in
     let h = seen t i in
     let x = c .before .before .add in
-    (turn-one (i .before .before .before .before .before .before .before .before .before .before .before .before .pre .1) (i .before .before .before .before .before .loop .inv .0) (h .below) (h .inside) (seen-flag h _) (seen-other h (c .before .before .before .before .before .before .before .before .if2 .left)) (seen-bound h _ _ (not-true _ (c .before .before .before .before .before .before .before .if4 .taken))) (added-record _ _ _ (c .before .before .before .before .before .before .«record» .ensures) (c .before .before .before .before .inlined-record .ensures) (x .ensures)) (x .kept .0), i .before .before .before .before .before .loop .inv .1)
+    (turn-one (i .before .before .before .before .before .before .before .before .before .before .before .before .pre .1) (i .before .before .before .before .before .loop .inv .0) (h .below) (h .inside) (seen-flag h _) (seen-other h (c .before .before .before .before .before .before .before .before .if2 .left)) (seen-bound h _ _ (not-true _ (c .before .before .before .before .before .before .before .if4 .taken))) (added-record _ _ _ (c .before .before .before .before .«record» .ensures) (c .before .before .before .inlined-record .ensures) (x .ensures)) (x .kept .0), i .before .before .before .before .before .loop .inv .1)
 
 loop-again-4 : (t : ℕ) → expand-lts.Need-loop-again-4 (claims t) (expand-at t) expand.Post Inv-loop μ-loop
 loop-again-4 t c =
@@ -157,6 +157,6 @@ pub +expand-spec : {M : Type 1} → statement M
     (λ c κs. search needs) (add-p t) (loop-holds t) (λ c κs. search needs) (λ c κs. search needs) (λ c. c .before .before .before .before .loop .inv .0 .env-long)
     (λ c. c .before .before .before .before .loop .inv .0 .out-long) (returns t) (λ c κs. search needs) (add-p-2 t) (mul-g t) (shared-slice-read-g t) (cast-g t)
     (mul-if3 t) (shared-slice-read-if3 t) (push-constraints-requires t) (expand-requires t) (λ c. search needs) (loop-again t)
-    (λ c. search needs) (loop-again-2 t) (record-requires t) (slice-reshare-prefix-inlined-record t) (slice-aggregate-inlined-record t)
+    (λ c. search needs) (loop-again-2 t) (slice-reshare-prefix-inlined-record t) (slice-aggregate-inlined-record t) (record-requires t)
     (λ c κs. search needs) (add-requires t) (λ c. search needs) (loop-again-3 t) (λ c. search needs) (loop-again-4 t)
     (λ c. c .before .loop .inv .0 .env-long) (λ c. c .before .loop .inv .0 .out-long) (returns-2 t)
