@@ -14,14 +14,11 @@ use Rattle.rules.specs.Kinds.{is, isDecl}
 use Rattle.rules.specs.Table.{at}
 use Rattle.rules.specs.DesugarFlags.{membersStart, isConditionOn, entriesFrom, entriesOf}
 use Rattle.rules.specs.declared.Record.{Record}
+use Rattle.table.proofs.Searches.{and-false}
 use Rattle.flag_sizes.specs.Counts.{Stamped, Counted}
 use Rattle.flag_sizes.proofs.Laws.{entries-decl, entries-end, entries-miss}
 
 -- ---- marks
-
-miss-by : (b : Bool) {c : Bool} → c ≡ false → (b && c) ≡ false
-miss-by true e = e
-miss-by false e = refl
 
 -- the conditions from a to p left their stamp: a name without it has no entries but those from p on
 pub record Stamping (rs : List Record) (marks : List ℕ) (a p : ℕ) : Type 0 where
@@ -50,7 +47,7 @@ module _ {rs : List Record} {marks : List ℕ} {a p : ℕ} (m : Stamping rs mark
 
         -- a name of another remainder is another name
         miss : (x : ℕ) → ¬ (x % 4093 ≡ y % 4093) → isConditionOn rs x p ≡ false
-        miss x d = miss-by (is kind.condition (at rs p)) (ne-eqb (at rs p .name) x (λ z. d (ap (λ (n : ℕ). n % 4093) (sym (e ∙ z)))))
+        miss x d = rw (ne-eqb (at rs p .name) x (λ z. d (ap (λ (n : ℕ). n % 4093) (sym (e ∙ z))))) (and-false (is kind.condition (at rs p)))
 
         go : (x : ℕ) → ¬ (getD (set marks (y % 4093) a) (x % 4093) 0 ≡ a) → (b : Bool) → eqb (x % 4093) (y % 4093) ≡ b
             → entriesFrom rs x (p + 1) ≡ entriesFrom rs x a
