@@ -140,38 +140,11 @@ fn run_fields(t: &[u8], buffer: &mut [u8]) -> Tally
     check_field_identifiers(t, &marks, buffer)
 }
 
-// Whether at most one record in 16 is a size and no declaration has over 32 records, so that searches are few and short. Only
-// speed depends on it.
-fn sizes_are_rare(t: &[u8]) -> bool {
-    let n = table::count(t);
-    let mut sizes = 0;
-    let mut start = 0;
-    let mut p = 0;
-    while p < n {
-        let k = table::kind(t, p);
-        p += 1;
-        if kinds::is_decl(k) {
-            start = p;
-        }
-        if kinds::is_size(k) {
-            sizes += 1;
-        }
-        if start + 32 < p {
-            return false;
-        }
-    }
-    16 * sizes <= n
-}
-
-// Pass 5 asks which sizes may repeat a name, and where to search for what they name. To search for a few takes
-// less time than to fill the arrays for all.
+// Pass 5 asks which sizes may repeat a name, and where to search for what they name.
 fn run_sizes(t: &[u8], buffer: &mut [u8]) -> Tally
     requires { ⌜ length (decode (now t)) ≤ 1600 ⌝ }
     ensures { λ r. ⌜ log r (now (buffer .exit)) ≡ logged (now (buffer .entry)) (passFaults 5 (decode (now (t .entry)))) ⌝ }
 {
-    if sizes_are_rare(t) {
-        return run_plain(5, t, buffer);
-    }
     let mut sizes = [1u8; 1600];
     let mut elements = [1u8; 1600];
     let mut places = [65535u16; 1600];

@@ -26,6 +26,5 @@ pub run-sizes-spec : {M : Type 1} → statement M
 run-sizes-spec =
     tie.close
     (tie.spec
-    (λ c κs. search needs) (λ c κs. search needs) (λ c. search needs) (λ c. search needs)
     (λ c. search needs) mark-requires (λ c. search needs) mark-requires-2 (λ c. search needs) fill-requires (λ c. search needs) (λ c. search needs)
     (λ c. search needs) run-places-requires (λ c. search needs) (λ c. search needs))
