@@ -1,4 +1,4 @@
 // The program: a table on standard input, its answer on standard output.
 fn main() {
-    shell::run();
+    program::run();
 }

@@ -25,7 +25,7 @@ fn redundant_size(t: &[u8], p: usize, found: Found) -> Finding
             if kinds::is_decl(s.kind) {
                 return Finding::Fine;
             }
-            Finding::One(fault::double(38, s, records::at(t, p)))
+            Finding::One(faults::fault::double(38, s, records::at(t, p)))
         }
         Found::Nothing => Finding::Fine,
     }

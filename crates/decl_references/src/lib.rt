@@ -1,10 +1,12 @@
 // What a declaration refers to by a name, its parent or the packet of a test: nothing, a fault, or a declaration to visit.
+pub mod field_references;
+
 use declarations::decl_named;
 use rules::Found;
 use rules::Reference;
 ghost use mathlib.Core.Path.{_≡_};
 ghost use Rattle.rules.specs.Table.{decode};
-ghost use Rattle.names.specs.Starts.{Starts};
+ghost use Rattle.declarations.specs.Starts.{Starts};
 ghost use Rattle.rules.specs.DeclIdentifiers.{parentReference, testReference, ownReference, rootReference};
 
 // The parent of the declaration at d.

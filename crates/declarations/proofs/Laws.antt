@@ -9,7 +9,7 @@ use Rattle.rules.specs.declared.Record.{Record}
 use Rattle.rules.specs.declared.Found.the-variants.{Nothing}
 use Rattle.rules.specs.declared.Target.the-variants.{DeclNamed}
 use Rattle.table.proofs.Searches.{none-below}
-use Rattle.names.specs.Starts.{Starts}
+use Rattle.declarations.specs.Starts.{Starts}
 
 module _ (rs : List Record) {starts : List ℕ} (w : Starts rs starts) where
   pub named-from : (x s : ℕ) → s ≡ getD starts (x % 4093) 0 → firstFrom rs (DeclNamed x) s ≡ declNamed rs x

@@ -1,4 +1,6 @@
 // Declarations found by their names. An array says where the search for a name may start.
+pub mod starts;
+
 use rules::Found;
 use rules::Target;
 ghost use mathlib.Core.Path.{_≡_};
@@ -7,7 +9,7 @@ ghost use lib.ListN.{getD};
 ghost use Rattle.rules.specs.Table.{decode, at};
 ghost use Rattle.rules.specs.Places.{nearest, holdsAt, declNamed};
 ghost use Rattle.rules.specs.declared.Target.the-variants.{DeclNamed};
-ghost use Rattle.names.specs.Starts.{Starts};
+ghost use Rattle.declarations.specs.Starts.{Starts};
 
 // The start for a name: place 0 where the array has none.
 fn start(starts: &[u16], name: u16) -> usize

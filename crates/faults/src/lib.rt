@@ -1,4 +1,7 @@
 // The fault buffer: the first faults, as many whole ones as fit, and a total that counts all.
+pub mod fault;
+pub mod notes;
+
 use rules::Fault;
 use rules::Tally;
 ghost use mathlib.Core.Path.{_≡_};

@@ -1,6 +1,6 @@
 // Pass 3, `check_field_identifiers`: code 11 at a field whose name an earlier field of the declaration has.
 use faults::Finding;
-use marks::Key;
+use repeats::marks::Key;
 use rules::Tally;
 ghost use mathlib.Core.Path.{_≡_};
 ghost use Prim.Native.Nat.{_+_, _^_, _<_, _≤_};
@@ -8,8 +8,8 @@ ghost use Rattle.rules.specs.Table.{decode};
 ghost use Rattle.rules.specs.Faults.{log, logged};
 ghost use Rattle.rules.specs.FieldIdentifiers.{pass3At, pass3};
 ghost use Rattle.faults.specs.Notes.{findings, notedAll};
-ghost use Rattle.marks.specs.Marks.{Marked};
-ghost use Rattle.marks.specs.declared.Key.the-variants.{FieldNames};
+ghost use Rattle.repeats.specs.Marks.{Marked};
+ghost use Rattle.repeats.specs.declared.marks.Key.the-variants.{FieldNames};
 
 pub fn at_place(t: &[u8], names: &[u8], p: usize) -> Finding
     requires { ⌜ Marked (decode (now t)) FieldNames (now names) ⌝ }
@@ -26,12 +26,12 @@ fn note_at(t: &[u8], names: &[u8], p: usize, tally: Tally, buffer: &mut [u8]) ->
     requires { ⌜ (tally .total + 1 < 2 ^ 64) × Marked (decode (now t)) FieldNames (now names) ⌝ }
     ensures { λ r. ⌜ (log r (now (buffer .exit)) ≡ notedAll (log tally (now (buffer .entry))) (pass3At (decode (now (t .entry))) p)) × (r .total ≤ tally .total + 1) ⌝ }
 {
-    let marked = marks::mark_at(names, p) != 0;
+    let marked = repeats::marks::mark_at(names, p) != 0;
     let named = kinds::is_named_field(table::kind(t, p));
     if !(marked & named) {
         return tally;
     }
-    notes::note_found(tally, buffer, at_place(t, names, p))
+    faults::notes::note_found(tally, buffer, at_place(t, names, p))
 }
 
 // All faults of the pass.

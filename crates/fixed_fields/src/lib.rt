@@ -1,14 +1,14 @@
 // Pass 6, `check_fixed_fields`: fixed values wider than their field, and fixed tags that no enum has.
 use faults::Finding;
-use members::has_member;
 use repeats::when;
 use rules::Found;
 use rules::Target;
+use search::members::has_member;
 ghost use mathlib.Core.Path.{_≡_};
 ghost use Rattle.rules.specs.Table.{decode};
 ghost use Rattle.rules.specs.FixedFields.{enumFault, pass6At};
 ghost use Rattle.faults.specs.Notes.{findings};
-ghost use Rattle.names.specs.Starts.{Starts};
+ghost use Rattle.declarations.specs.Starts.{Starts};
 
 // 33, 34, 35 for a missing enum, a missing tag, no enum.
 fn enum_fault(t: &[u8], p: usize, found: Found) -> Finding
@@ -19,14 +19,14 @@ fn enum_fault(t: &[u8], p: usize, found: Found) -> Finding
         Found::At(d) => {
             let e = records::at(t, d);
             if e.kind != 3 {
-                return Finding::One(fault::double(35, r, e));
+                return Finding::One(faults::fault::double(35, r, e));
             }
             if has_member(t, Target::OuterTagOrDecl(r.third), d) {
                 return Finding::Fine;
             }
-            Finding::One(fault::double(34, r, e))
+            Finding::One(faults::fault::double(34, r, e))
         }
-        Found::Nothing => Finding::One(fault::single(33, r)),
+        Found::Nothing => Finding::One(faults::fault::single(33, r)),
     }
 }
 
@@ -37,7 +37,10 @@ pub fn at_place(t: &[u8], starts: &[u16], p: usize) -> Finding
     let r = records::at(t, p);
     let k = r.kind;
     if k == 27 {
-        return when(r.one < widths::bit_width(r.two), fault::single(32, r));
+        return when(
+            r.one < widths::bit_width(r.two),
+            faults::fault::single(32, r),
+        );
     }
     if k == 28 {
         return enum_fault(t, p, declarations::decl_named(t, starts, r.second));

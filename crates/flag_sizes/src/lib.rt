@@ -1,4 +1,6 @@
 // Sizes with flags: how many entries each field gets from the conditions that name it, and how many records the table becomes.
+pub mod conditions;
+
 ghost use mathlib.Core.Path.{_≡_};
 ghost use Prim.Native.Nat.{_+_, _-_, _<_, _≤_};
 ghost use lib.ListN.{length};

@@ -14,7 +14,7 @@ ghost use Rattle.flag_table.specs.Appended.{Appended, Room};
 fn entry_of(t: &[u8], q: usize) -> Record
     ensures { λ r. ⌜ r ≡ entryOf (decode (now (t .entry))) q ⌝ }
 {
-    let field = records::at(t, conditions::before(q));
+    let field = records::at(t, flag_sizes::conditions::before(q));
     let condition = records::at(t, q);
     Record {
         kind: 12,
@@ -71,7 +71,7 @@ fn write_entries(t: &[u8], x: u16, a: usize, out: &mut [u8], c: usize) -> usize
         if kinds::is_decl(table::kind(t, q)) {
             return n;
         }
-        if conditions::is_condition_on(t, x, q) {
+        if flag_sizes::conditions::is_condition_on(t, x, q) {
             n = append(out, n, entry_of(t, q));
         }
     }
@@ -154,7 +154,7 @@ pub fn write_all(t: &[u8], counts: &[u16], out: &mut [u8])
     let mut p = 0;
     while p < end {
         n = write_at(t, counts, p, a, out, n);
-        a = conditions::next_start(t, p, a);
+        a = flag_sizes::conditions::next_start(t, p, a);
         p += 1;
     }
 }

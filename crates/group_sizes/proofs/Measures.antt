@@ -17,11 +17,11 @@ use Rattle.rules.specs.InlineGroups.{isKept, afterGroup}
 use Rattle.rules.specs.declared.Record.{Record}
 use Rattle.rules.specs.declared.Found.the-variants.{At}
 use Rattle.rules.specs.declared.Target.the-variants.{Decl}
-use Rattle.names.specs.GroupsFirst.{GroupsFirst}
-use Rattle.group_targets.specs.Targets.{Resolved}
+use Rattle.group_sizes.specs.GroupsFirst.{GroupsFirst}
+use Rattle.group_sizes.specs.Targets.{Resolved}
 use Rattle.group_sizes.specs.Sizes.{sizeHere, sizeAt, fieldsSize, sizeFrom, totalSize, Sized}
 use Rattle.table.proofs.Searches.{false-true}
-use Rattle.group_targets.proofs.Resolves.{named-in, group-before}
+use Rattle.group_sizes.proofs.targets.Resolves.{named-in, group-before}
 use Rattle.group_sizes.proofs.Fields.{here-start, here-next, after-start, after-next, size-next, size-end, Ends, Seen, seen-flag}
 
 -- ---- the size of one declaration: what is counted and what is left make the whole

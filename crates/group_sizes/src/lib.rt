@@ -1,4 +1,6 @@
 // The sizes of declarations once their groups are inlined, by place.
+pub mod targets;
+
 use kinds::is_constraint_or_condition;
 use kinds::is_kept;
 ghost use mathlib.Core.Path.{_≡_};
@@ -7,8 +9,8 @@ ghost use Prim.Native.Nat.{_+_, _<_, _≤_, min};
 ghost use lib.ListN.{length, getD};
 ghost use Rattle.rules.specs.Table.{decode, at};
 ghost use Rattle.rules.specs.Kinds.{isDecl};
-ghost use Rattle.names.specs.GroupsFirst.{GroupsFirst};
-ghost use Rattle.group_targets.specs.Targets.{Resolved};
+ghost use Rattle.group_sizes.specs.GroupsFirst.{GroupsFirst};
+ghost use Rattle.group_sizes.specs.Targets.{Resolved};
 ghost use Rattle.group_sizes.specs.Sizes.{sizeHere, sizeFrom, Sized, totalSize};
 
 // How many records the record of kind k at p becomes; bound: it belongs to a group field.

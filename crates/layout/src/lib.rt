@@ -1,4 +1,6 @@
 // The layout of a table: its length, the row of each record and the place where it stands.
+mod rows;
+
 use kinds::holds_fields;
 use kinds::is_decl;
 use kinds::is_field;

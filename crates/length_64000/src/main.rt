@@ -1,4 +1,4 @@
 // The program on 64000 bytes.
 fn main() {
-    shell::run();
+    program::run();
 }

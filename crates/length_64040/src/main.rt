@@ -1,4 +1,4 @@
 // The program on 64040 bytes.
 fn main() {
-    shell::run();
+    program::run();
 }

@@ -1,4 +1,4 @@
 // The program on 64041 bytes.
 fn main() {
-    shell::run();
+    program::run();
 }

@@ -75,7 +75,7 @@ fn line(x: u64) {
 fn show(t: &[u8], buffer: &mut [u8], out: &mut [u8])
     requires { ⌜ (length (now t) ≡ 64000) × (length (now out) ≡ 64000) ⌝ }
 {
-    let r = order::check_decl_identifiers(t, buffer, out);
+    let r = decl_order::check_decl_identifiers(t, buffer, out);
     line(r.records as u64);
     let tally = r.tally;
     line(tally.total as u64);

@@ -10,7 +10,7 @@ ghost use Rattle.faults.specs.Notes.{findings};
 fn not_after_array(t: &[u8], p: usize, found: Found) -> Finding
     ensures { λ r. ⌜ findings r ≡ notAfterArray (decode (now (t .entry))) p found ⌝ }
 {
-    let fault = fault::single(39, records::at(t, p));
+    let fault = faults::fault::single(39, records::at(t, p));
     match found {
         Found::At(q) => {
             if table::kind(t, q) == 30 {

@@ -5,14 +5,14 @@ use mathlib.Core.List.{List, []}
 use mathlib.Core.Logic.{_⊎_, inl, inr}
 use native.Mathlib.Omega.{arith}
 use Rattle.rules.specs.declared.Record.{Record}
-use Rattle.names.specs.Starts.{Starts}
-use Rattle.names.proofs.Laws.{starts-none}
-use Rattle.marks.specs.Marks.{Marked}
-use Rattle.marks.specs.declared.Key.the-variants.{FieldNames, Sizes, ElementSizes}
-use Rattle.marks.proofs.Laws.{marked-ones}
-use Rattle.size_starts.specs.SizeStarts.{SizeStarts}
-use Rattle.parents.specs.Parents.{Parents}
-use Rattle.size_starts.proofs.Laws.{starts-empty}
+use Rattle.declarations.specs.Starts.{Starts}
+use Rattle.declarations.proofs.starts.Laws.{starts-none}
+use Rattle.repeats.specs.Marks.{Marked}
+use Rattle.repeats.specs.declared.marks.Key.the-variants.{FieldNames, Sizes, ElementSizes}
+use Rattle.repeats.proofs.marks.Laws.{marked-ones}
+use Rattle.size_fields.specs.SizeStarts.{SizeStarts}
+use Rattle.payload_fields.specs.Parents.{Parents}
+use Rattle.size_fields.proofs.starts.Laws.{starts-empty}
 use Rattle.pass_faults.specs.Known.{Known}
 
 pub declared-other : (k : ℕ) → (k ≡ 1) ⊎ (k ≡ 6) → k ≡ 4 → ⊥

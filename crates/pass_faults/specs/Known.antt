@@ -3,11 +3,11 @@ use Prim.Native.Nat.{ℕ}
 use mathlib.Core.Path.{_≡_}
 use mathlib.Core.List.{List}
 use Rattle.rules.specs.declared.Record.{Record}
-use Rattle.names.specs.Starts.{Starts}
-use Rattle.marks.specs.Marks.{Marked}
-use Rattle.marks.specs.declared.Key.the-variants.{FieldNames, Sizes, ElementSizes}
-use Rattle.size_starts.specs.SizeStarts.{SizeStarts}
-use Rattle.parents.specs.Parents.{Parents}
+use Rattle.declarations.specs.Starts.{Starts}
+use Rattle.repeats.specs.Marks.{Marked}
+use Rattle.repeats.specs.declared.marks.Key.the-variants.{FieldNames, Sizes, ElementSizes}
+use Rattle.size_fields.specs.SizeStarts.{SizeStarts}
+use Rattle.payload_fields.specs.Parents.{Parents}
 
 -- pass k finds in marks, more and places what it asks for
 pub record Known (k : ℕ) (rs : List Record) (marks more places : List ℕ) : Type 0 where

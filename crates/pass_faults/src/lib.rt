@@ -1,7 +1,7 @@
 // All faults of a pass, by its number: pass 1, and passes 3 to 9, place by place.
 use faults::Finding;
 use field_identifiers::check_field_identifiers;
-use marks::Key;
+use repeats::marks::Key;
 use rules::Tally;
 ghost use mathlib.Core.Path.{_≡_};
 ghost use mathlib.Core.Logic.{_⊎_};
@@ -48,10 +48,18 @@ fn note_at(
     ensures { λ r. ⌜ (log r (now (buffer .exit)) ≡ notedAll (log tally (now (buffer .entry))) (passAt pass (decode (now (t .entry))) p)) × (r .total ≤ tally .total + 2) ⌝ }
 {
     if pass != 5 {
-        return notes::note_found(tally, buffer, finding(pass, t, marks, places, p));
+        return faults::notes::note_found(tally, buffer, finding(pass, t, marks, places, p));
     }
-    let once = notes::note_found(tally, buffer, size_repeats::size_again(t, marks, more, p));
-    notes::note_found(once, buffer, size_targets::size_target(t, places, p))
+    let once = faults::notes::note_found(
+        tally,
+        buffer,
+        size_fields::duplicates::size_again(t, marks, more, p),
+    );
+    faults::notes::note_found(
+        once,
+        buffer,
+        size_fields::targets::size_target(t, places, p),
+    )
 }
 
 // The kinds of the records that a pass looks at, a bit each.
@@ -127,7 +135,7 @@ fn run_declared(pass: u8, t: &[u8], buffer: &mut [u8]) -> Tally
 {
     let marks = [0u8; 0];
     let mut places = [65535u16; 4093];
-    names::fill(t, &mut places);
+    declarations::starts::fill(t, &mut places);
     run_places(pass, t, &marks, &marks, &places, buffer)
 }
 
@@ -136,7 +144,7 @@ fn run_fields(t: &[u8], buffer: &mut [u8]) -> Tally
     ensures { λ r. ⌜ log r (now (buffer .exit)) ≡ logged (now (buffer .entry)) (passFaults 3 (decode (now (t .entry)))) ⌝ }
 {
     let mut marks = [1u8; 1600];
-    marks::mark(t, Key::FieldNames, &mut marks);
+    repeats::marks::mark(t, Key::FieldNames, &mut marks);
     check_field_identifiers(t, &marks, buffer)
 }
 
@@ -148,9 +156,9 @@ fn run_sizes(t: &[u8], buffer: &mut [u8]) -> Tally
     let mut sizes = [1u8; 1600];
     let mut elements = [1u8; 1600];
     let mut places = [65535u16; 1600];
-    marks::mark(t, Key::Sizes, &mut sizes);
-    marks::mark(t, Key::ElementSizes, &mut elements);
-    size_starts::fill(t, &mut places);
+    repeats::marks::mark(t, Key::Sizes, &mut sizes);
+    repeats::marks::mark(t, Key::ElementSizes, &mut elements);
+    size_fields::starts::fill(t, &mut places);
     run_places(5, t, &sizes, &elements, &places, buffer)
 }
 
@@ -161,7 +169,7 @@ fn run_parents(t: &[u8], buffer: &mut [u8]) -> Tally
     let mut parents = [0u8; 4093];
     let none = [0u8; 0];
     let places = [0u16; 0];
-    parents::mark_parents(t, &mut parents);
+    payload_fields::parents::mark_parents(t, &mut parents);
     run_places(7, t, &parents, &none, &places, buffer)
 }
 
@@ -171,9 +179,9 @@ pub fn run(pass: u8, t: &[u8], buffer: &mut [u8]) -> Tally
     ensures { λ r. ⌜ log r (now (buffer .exit)) ≡ logged (now (buffer .entry)) (passFaults pass (decode (now (t .entry)))) ⌝ }
 {
     if pass == 4 {
-        return enums::check_enum_declarations(t, buffer);
+        return enum_declarations::check_enum_declarations(t, buffer);
     }
-    if !names::pays(t) {
+    if !declarations::starts::pays(t) {
         return run_plain(pass, t, buffer);
     }
     match pass {

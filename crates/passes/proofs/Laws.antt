@@ -22,16 +22,16 @@ use Rattle.rules.specs.declared.Reply.{Reply}
 use Rattle.rules.specs.declared.Reply.the-variants.{Faulty}
 use Rattle.table.proofs.Laws.{first-in}
 use Rattle.faults.proofs.Laws.{logged-none}
-use Rattle.checks.specs.Later.{Outcome, outcome, checkedNumbered, findsLater, byLater, later}
-use Rattle.checks.specs.declared.Checked as passes
-use Rattle.checks.specs.declared.Checked.the-variants as checked
-use Rattle.checks.proofs.Laws.{lowest-later}
-use Rattle.order.specs.Contract.{Ordered, Checked}
-use Rattle.names.specs.GroupsFirst.{GroupsFirst}
-use Rattle.order.specs.declared.Outcome as order
-use Rattle.order.proofs.Checks.{checked-total, checked-ordered}
-use Rattle.order.proofs.Names.{unique-names}
-use Rattle.order.proofs.Groups.{groups-first}
+use Rattle.passes.specs.Later.{Outcome, outcome, checkedNumbered, findsLater, byLater, later}
+use Rattle.passes.specs.declared.checks.Checked as passes
+use Rattle.passes.specs.declared.checks.Checked.the-variants as checked
+use Rattle.passes.proofs.checks.Laws.{lowest-later}
+use Rattle.decl_order.specs.Contract.{Ordered, Checked}
+use Rattle.group_sizes.specs.GroupsFirst.{GroupsFirst}
+use Rattle.decl_order.specs.declared.Outcome as order
+use Rattle.decl_order.proofs.Checks.{checked-total, checked-ordered}
+use Rattle.decl_order.proofs.Names.{unique-names}
+use Rattle.passes.proofs.Groups.{groups-first}
 use Rattle.passes.specs.Listed.{byListedPass, byListed}
 
 -- ---- the faults of a pass

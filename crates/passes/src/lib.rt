@@ -1,4 +1,7 @@
 // The nine passes in their order, then the table: the rows from Faulty on.
+pub mod checks;
+mod rewrite;
+
 use checks::Checked;
 use rules::Reply;
 ghost use mathlib.Core.Path.{_≡_};
@@ -8,7 +11,7 @@ ghost use lib.ListN.{length};
 ghost use Rattle.rules.specs.Table.{decode};
 ghost use Rattle.rules.specs.Scopes.{pass1};
 ghost use Rattle.rules.specs.Replies.{answered, byPasses};
-ghost use Rattle.names.specs.GroupsFirst.{GroupsFirst};
+ghost use Rattle.group_sizes.specs.GroupsFirst.{GroupsFirst};
 ghost use Rattle.passes.specs.Listed.{byListed};
 
 // Passes 3 to 9, then the table.
@@ -27,7 +30,7 @@ fn check_order(input: &[u8], listed: &mut [u8], table: &mut [u8], faults: &mut [
     requires { ⌜ (length (decode (now input)) ≤ 1600) × (40 * length (decode (now input)) ≤ length (now listed)) × (pass1 (decode (now input)) ≡ []) ⌝ }
     ensures { λ r. ⌜ answered r (now (table .exit)) (now (faults .exit)) ≡ byPasses (decode (now (input .entry))) (now (table .entry)) (now (faults .entry)) ⌝ }
 {
-    let outcome = order::check_decl_identifiers(input, faults, listed);
+    let outcome = decl_order::check_decl_identifiers(input, faults, listed);
     let tally = outcome.tally;
     if 0 < tally.total {
         return Reply::Faulty(2, tally.total);

@@ -13,7 +13,7 @@ use Rattle.rules.specs.declared.Record.{Record}
 use Rattle.rules.specs.declared.Found.{Found}
 use Rattle.rules.specs.declared.Found.the-variants.{At, Nothing}
 use Rattle.table.proofs.Searches.{first-nothing}
-use Rattle.parents.specs.Parents.{Parents}
+use Rattle.payload_fields.specs.Parents.{Parents}
 
 module _ (rs : List Record) where
   -- a declaration whose mark is 0, or that has a Payload or Body, lacks none

@@ -1,9 +1,11 @@
 // Pass 7, `check_payload_fields`: a second Payload or Body, and a parent that has none though a child has fields.
+pub mod parents;
+
 use faults::Finding;
-use members::has_member;
 use repeats::when;
 use rules::Found;
 use rules::Target;
+use search::members::has_member;
 ghost use mathlib.Core.Path.{_≡_};
 ghost use lib.ListN.{length};
 ghost use Rattle.rules.specs.Table.{decode};
@@ -11,7 +13,7 @@ ghost use Rattle.rules.specs.Places.{first, firstWithin};
 ghost use Rattle.rules.specs.PayloadFields.{secondPayload, hasField, childWithField, missingPayload, pass7At};
 ghost use Rattle.rules.specs.declared.Target.the-variants.{PayloadOrDecl};
 ghost use Rattle.faults.specs.Notes.{findings};
-ghost use Rattle.parents.specs.Parents.{Parents};
+ghost use Rattle.payload_fields.specs.Parents.{Parents};
 
 // The first Payload or Body of the declaration that p stands in.
 fn first_payload(t: &[u8], p: usize) -> Found
@@ -27,7 +29,7 @@ fn second_payload(t: &[u8], p: usize, found: Found) -> Finding
     match found {
         Found::At(q) => when(
             q < p,
-            fault::double(36, records::at(t, p), records::at(t, q)),
+            faults::fault::double(36, records::at(t, p), records::at(t, q)),
         ),
         Found::Nothing => Finding::Fine,
     }
@@ -70,14 +72,14 @@ fn missing_payload(t: &[u8], parents: &[u8], d: usize) -> Finding
     ensures { λ r. ⌜ findings r ≡ missingPayload (decode (now (t .entry))) d (first (childWithField (decode (now (t .entry))) d) 0 (length (decode (now (t .entry))))) ⌝ }
 {
     let h = (table::name(t, d) % 4093) as usize;
-    if marks::mark_at(parents, h) == 0 {
+    if repeats::marks::mark_at(parents, h) == 0 {
         return Finding::Fine;
     }
     if has_member(t, Target::PayloadOrDecl, d) {
         return Finding::Fine;
     }
     match child_with_field(t, d) {
-        Found::At(_) => Finding::One(fault::single(37, records::at(t, d))),
+        Found::At(_) => Finding::One(faults::fault::single(37, records::at(t, d))),
         Found::Nothing => Finding::Fine,
     }
 }

@@ -12,8 +12,8 @@ use Rattle.rules.specs.declared.Record.{Record}
 use Rattle.rules.specs.declared.Found.{Found}
 use Rattle.rules.specs.declared.Found.the-variants.{At, Nothing}
 use Rattle.table.proofs.Searches.{false-true}
-use Rattle.marks.specs.Marks.{targetOf, earlier}
-use Rattle.marks.specs.declared.Key.{Key}
+use Rattle.repeats.specs.Marks.{targetOf, earlier}
+use Rattle.repeats.specs.declared.marks.Key.{Key}
 
 -- a search that finds nothing in the declaration
 none-found : (code : ℕ) (rs : List Record) (p : ℕ) (x : Found) → foundInside rs x ≡ false → [] ≡ repeated code rs p x

@@ -1,4 +1,6 @@
 // Records that repeat an earlier one of their declaration.
+pub mod marks;
+
 use faults::Finding;
 use marks::Key;
 use rules::Fault;
@@ -10,7 +12,7 @@ ghost use Rattle.rules.specs.Table.{decode, at};
 ghost use Rattle.rules.specs.Faults.{repeated};
 ghost use Rattle.rules.specs.EnumDeclarations.{again};
 ghost use Rattle.faults.specs.Notes.{findings};
-ghost use Rattle.marks.specs.Marks.{keyOf, targetOf, Marked};
+ghost use Rattle.repeats.specs.Marks.{keyOf, targetOf, Marked};
 
 // A fault where a test holds.
 pub fn when(b: bool, f: Fault) -> Finding
@@ -32,7 +34,7 @@ fn repeated(code: u16, t: &[u8], p: usize, found: Found) -> Finding
             if kinds::is_decl(s.kind) {
                 return Finding::Fine;
             }
-            Finding::One(fault::double(code, records::at(t, p), s))
+            Finding::One(faults::fault::double(code, records::at(t, p), s))
         }
         Found::Nothing => Finding::Fine,
     }

@@ -1,5 +1,8 @@
 // Replays stored tables through parts of the analyzer: a line for each case says what the part answered.
-use checks::Checked;
+mod buffers;
+mod stored;
+
+use passes::checks::Checked;
 use rules::Layout;
 use rules::Reply;
 use rules::Tally;
@@ -28,7 +31,7 @@ fn print_faults(tally: Tally, faults: &[u8], end: u8) {
 
 fn print_scope(input: &[u8], faults: &mut [u8]) {
     stored::fill(faults);
-    let tally = checks::scope_new(input, faults);
+    let tally = passes::checks::scope_new(input, faults);
     print_faults(tally, faults, b'\n');
 }
 
@@ -42,7 +45,7 @@ fn print_order(input: &[u8], faults: &mut [u8], out: &mut [u8]) {
     if out.len() < 64000 {
         return;
     }
-    let outcome = order::check_decl_identifiers(input, faults, out);
+    let outcome = decl_order::check_decl_identifiers(input, faults, out);
     let tally = outcome.tally;
     print_faults(tally, faults, b' ');
     stored::print(outcome.records as u64, b' ');
@@ -63,7 +66,7 @@ fn print_later(listed: &[u8], faults: &mut [u8]) {
     if 1600 < table::count(listed) {
         return;
     }
-    match checks::run_later(listed, faults) {
+    match passes::checks::run_later(listed, faults) {
         Checked::Faulty(pass, total) => {
             stored::print(pass as u64, b' ');
             let tally = Tally {
@@ -88,7 +91,7 @@ fn print_checks(input: &[u8], faults: &mut [u8], out: &mut [u8]) {
     if out.len() < 64000 {
         return;
     }
-    let outcome = order::check_decl_identifiers(input, faults, out);
+    let outcome = decl_order::check_decl_identifiers(input, faults, out);
     let n = outcome.records;
     if 1600 < n {
         return;

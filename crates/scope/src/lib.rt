@@ -5,7 +5,7 @@ ghost use mathlib.Core.Path.{_≡_};
 ghost use Rattle.rules.specs.Table.{decode};
 ghost use Rattle.rules.specs.Scopes.{pass1At};
 ghost use Rattle.faults.specs.Notes.{findings};
-ghost use Rattle.names.specs.Starts.{Starts};
+ghost use Rattle.declarations.specs.Starts.{Starts};
 
 pub fn at_place(t: &[u8], starts: &[u16], p: usize) -> Finding
     requires { ⌜ Starts (decode (now t)) (now starts) ⌝ }
@@ -15,7 +15,11 @@ pub fn at_place(t: &[u8], starts: &[u16], p: usize) -> Finding
         return Finding::Fine;
     }
     match declarations::earlier(t, starts, p) {
-        Found::At(q) => Finding::One(fault::double(1, records::at(t, p), records::at(t, q))),
+        Found::At(q) => Finding::One(faults::fault::double(
+            1,
+            records::at(t, p),
+            records::at(t, q),
+        )),
         Found::Nothing => Finding::Fine,
     }
 }

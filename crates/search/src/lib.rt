@@ -1,4 +1,7 @@
 // Searches among the places of a table.
+pub mod members;
+mod targets;
+
 use kinds::is_decl;
 use rules::Found;
 use rules::Target;

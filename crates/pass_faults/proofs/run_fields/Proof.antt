@@ -1,7 +1,7 @@
 -- `pass_faults::run_fields` meets its contract. Assumes nothing.
 use borrow.Author.Needs.{needs}
 use Rattle.rules.specs.Replies.{laterFaults}
-use Rattle.marks.proofs.Laws.{marked-ones}
+use Rattle.repeats.proofs.marks.Laws.{marked-ones}
 use Rattle.pass_faults.specs.Passes.{passFaults}
 use Rattle.pass_faults.proofs.run_fields.Statement.{statement}
 use Rattle.pass_faults.proofs.run_fields.Tie as tie

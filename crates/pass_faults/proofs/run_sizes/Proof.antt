@@ -1,8 +1,8 @@
 -- `pass_faults::run_sizes` meets its contract. Assumes nothing.
 use borrow.Author.Needs.{needs}
 use native.Mathlib.Omega.{arith}
-use Rattle.marks.proofs.Laws.{marked-ones}
-use Rattle.size_starts.proofs.Laws.{starts-unknown}
+use Rattle.repeats.proofs.marks.Laws.{marked-ones}
+use Rattle.size_fields.proofs.starts.Laws.{starts-unknown}
 use Rattle.pass_faults.proofs.Known.{known-sizes}
 use Rattle.pass_faults.proofs.run_sizes.Statement.{statement}
 use Rattle.pass_faults.proofs.run_sizes.Tie as tie

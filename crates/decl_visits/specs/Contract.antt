@@ -1,0 +1,76 @@
+-- What the contracts of the visits say: which state the lent slices hold.
+use mathlib.Core.Path.{_≡_}
+use mathlib.Core.Bool.{Bool, _&&_, _||_, not}
+use mathlib.Core.List.{List, [], _∷_, map}
+use Prim.Native.Nat.{ℕ, zero, suc, _+_, _*_, _-_, _^_, _<_, _≤_}
+use lib.Dec.{eqb, ltb, leb}
+use lib.ListN.{length}
+use lib.Seq.{sets}
+use Rattle.rules.specs.Kinds.{isDecl, array, typedef, groupField}
+use Rattle.rules.specs.Table.{at}
+use Rattle.rules.specs.Faults.{log}
+use Rattle.rules.specs.Visits.{State, resolve, walk, visit}
+use Rattle.rules.specs.DeclIdentifiers.{references, fieldReferences, faultOf}
+use Rattle.rules.specs.declared.Record.{Record}
+use Rattle.rules.specs.declared.Reference.{Reference}
+use Rattle.rules.specs.declared.Reference.the-variants.{Nowhere, Wrong, Follow}
+use Rattle.faults.specs.Notes.{none, notedAll}
+use Rattle.decl_visits.specs.declared.Progress.{Progress}
+
+-- how many marks are of places not visited yet
+unfoldable pub unvisitedCount : List ℕ → ℕ
+unvisitedCount [] = zero
+unvisitedCount (zero ∷ l) = suc (unvisitedCount l)
+unvisitedCount (suc m ∷ l) = unvisitedCount l
+
+-- a record stands at p, and it is no declaration
+abbrev pub memberAt : List Record → ℕ → Bool
+memberAt rs p = ltb p (length rs) && not (isDecl (at rs p .kind))
+
+-- an array, a Typedef or a Group field may refer to a declaration
+abbrev pub refers : ℕ → Bool
+refers k = eqb k array || leb typedef k && leb k groupField
+
+-- a record stands at p, it is no declaration, and its kind refers to nothing
+abbrev pub refersNowhere : List Record → ℕ → Bool
+refersNowhere rs p = memberAt rs p && not (refers (at rs p .kind))
+
+-- the slices and the counts hold the state s; the places and the fault buffer were o₀ and f₀
+pub record Held (rs : List Record) (o₀ f₀ : List ℕ) (s : State) (marks places buffer : List ℕ) (a : Progress) : Type 0 where
+  pub marks-are : marks ≡ s .marks
+  pub places-are : places ≡ sets o₀ 0 (s .order)
+  pub listed-is : a .listed ≡ length (s .order)
+  pub faults-are : log (a .tally) buffer ≡ notedAll (log none f₀) (map (faultOf rs) (s .faults))
+
+-- they hold some state, with room for x more faults and y more places than the unvisited ones bring
+pub record Ready (rs : List Record) (marks places buffer : List ℕ) (a : Progress) (x y : ℕ) : Type 0 where
+  pub state : State
+  pub places₀ : List ℕ
+  pub buffer₀ : List ℕ
+  pub held : Held rs places₀ buffer₀ state marks places buffer a
+  pub few : length rs ≤ 1600
+  pub size : length marks ≡ length rs
+  pub room : a .listed + unvisitedCount marks + y ≤ length places
+  pub spare : a .tally .total + unvisitedCount marks * 2048 + x < 2 ^ 63
+
+-- a declaration to visit stands below n
+abbrev pub Within : ℕ → Reference → Type 0
+Within n Nowhere = Unit {0}
+Within n (Wrong c p) = Unit {0}
+Within n (Follow d) = d < n
+
+-- whatever state they held, they now hold it with the reference r taken up
+abbrev pub Visited : List Record → Reference → List ℕ → List ℕ → List ℕ → Progress → List ℕ → List ℕ → List ℕ → Progress → Type 0
+Visited rs r m o f a m′ o′ f′ a′ =
+    (k : ℕ) (o₀ f₀ : List ℕ) (s : State) → unvisitedCount m < k → Held rs o₀ f₀ s m o f a → Held rs o₀ f₀ (resolve (visit k (references rs)) r s) m′ o′ f′ a′
+
+-- the same of the references of the fields from p on
+abbrev pub Walked : List Record → ℕ → List ℕ → List ℕ → List ℕ → Progress → List ℕ → List ℕ → List ℕ → Progress → Type 0
+Walked rs p m o f a m′ o′ f′ a′ =
+    (k : ℕ) (o₀ f₀ : List ℕ) (s : State) → unvisitedCount m < k → Held rs o₀ f₀ s m o f a
+    → Held rs o₀ f₀ (walk (visit k (references rs)) (fieldReferences rs p (length rs - p)) s) m′ o′ f′ a′
+
+-- the fields from p up to q refer to nothing: to walk from p is to walk from q
+pub record Skipped (rs : List Record) (p q : ℕ) : Type 0 where
+  pub on : p ≤ q
+  pub same : (v : ℕ → State → State) (s : State) → walk v (fieldReferences rs p (length rs - p)) s ≡ walk v (fieldReferences rs q (length rs - q)) s

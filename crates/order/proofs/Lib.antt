@@ -1,9 +1,0 @@
-pub mod Accepts
-pub mod Sorted
-pub mod Promise
-pub mod Copies
-pub mod Room
-pub mod Checks
-pub mod Stretches
-pub mod Groups
-pub mod Names

@@ -1,0 +1,124 @@
+// What the program prints, appended to one lent text: the reply's line, and a line for each fault kept or record.
+mod replies;
+mod text;
+
+use faults::FAULT_LENGTH;
+use rules::Fault;
+use rules::Record;
+use rules::Reply;
+ghost use mathlib.Core.Path.{_≡_};
+ghost use Prim.Native.Nat.{_+_, _*_, _≤_, min};
+ghost use lib.ListN.{length};
+ghost use Rattle.rules.specs.Bytes.{written};
+ghost use Rattle.rules.specs.Faults.{faultAt, faultRoom};
+ghost use Rattle.rules.specs.Replies.{numbered, answered};
+ghost use Rattle.rules.specs.Printed.{recordLine, faultLine, recordLines, faultLines, detail, printed};
+ghost use Rattle.printed.specs.Appended.{Appended};
+ghost use Rattle.printed.specs.Whole.{Whole};
+
+// A record's line: ten numbers.
+fn append_record(text: &mut [u8], at: usize, r: Record) -> usize
+    requires { ⌜ at + 210 ≤ length (now text) ⌝ }
+    ensures { λ p. ⌜ Appended (now (text .entry)) at (recordLine r) (now (text .exit)) p ⌝ }
+{
+    let ns = [
+        r.marks as u64,
+        r.name as u64,
+        r.second as u64,
+        r.third as u64,
+        r.one,
+        r.two,
+        r.key as u64,
+        r.start as u64,
+        r.end as u64,
+    ];
+    text::append_list(text, at, r.kind as u64, &ns)
+}
+
+// A fault's line: its code and its primary location, and the secondary one where there is one.
+fn append_fault(text: &mut [u8], at: usize, f: Fault) -> usize
+    requires { ⌜ at + 105 ≤ length (now text) ⌝ }
+    ensures { λ r. ⌜ Appended (now (text .entry)) at (faultLine f) (now (text .exit)) r ⌝ }
+{
+    if f.secondary == 0 {
+        let ns = [f.start as u64, f.end as u64];
+        return text::append_list(text, at, f.code as u64, &ns);
+    }
+    let ns = [f.start as u64, f.end as u64, f.start2 as u64, f.end2 as u64];
+    text::append_list(text, at, f.code as u64, &ns)
+}
+
+// The fault in the 20 bytes from i.
+fn fault_at(b: &[u8], i: usize) -> Fault
+    requires { ⌜ i + 20 ≤ length (now b) ⌝ }
+    ensures { λ r. ⌜ r ≡ faultAt (now (b .entry)) i ⌝ }
+{
+    Fault {
+        code: numbers::number2(b, i),
+        secondary: numbers::number2(b, i + 2),
+        start: numbers::number4(b, i + 4),
+        end: numbers::number4(b, i + 8),
+        start2: numbers::number4(b, i + 12),
+        end2: numbers::number4(b, i + 16),
+    }
+}
+
+// The lines of the first n records of a table.
+fn append_records(text: &mut [u8], at: usize, table: &[u8], n: usize) -> usize
+    requires { ⌜ (at + 210 * n ≤ length (now text)) × (40 * n ≤ length (now table)) ⌝ }
+    ensures { λ r. ⌜ Appended (now (text .entry)) at (recordLines (now (table .entry)) n) (now (text .exit)) r ⌝ }
+{
+    let mut p = at;
+    let mut i = 0;
+    while i < n {
+        p = append_record(text, p, records::record(table, i));
+        i += 1;
+    }
+    p
+}
+
+// The lines of the first n faults of a fault buffer.
+fn append_faults(text: &mut [u8], at: usize, faults: &[u8], n: usize) -> usize
+    requires { ⌜ (at + 105 * n ≤ length (now text)) × (20 * n ≤ length (now faults)) ⌝ }
+    ensures { λ r. ⌜ Appended (now (text .entry)) at (faultLines (now (faults .entry)) n) (now (text .exit)) r ⌝ }
+{
+    let mut p = at;
+    let mut i = 0;
+    while i < n {
+        p = append_fault(text, p, fault_at(faults, FAULT_LENGTH * i));
+        i += 1;
+    }
+    p
+}
+
+// How many faults of a total are kept in the fault buffer.
+fn kept(total: usize, faults: &[u8]) -> usize
+    ensures { λ r. ⌜ r ≡ min total (faultRoom (now (faults .entry))) ⌝ }
+{
+    let room = faults.len() / FAULT_LENGTH;
+    if room < total {
+        return room;
+    }
+    total
+}
+
+// What stands behind the reply's line: the faults kept, or the records.
+fn append_detail(text: &mut [u8], at: usize, reply: Reply, table: &[u8], faults: &[u8]) -> usize
+    requires { ⌜ (at + 336000 ≤ length (now text)) × (length (now table) ≤ 64000) × (length (now faults) ≤ 64000) × Whole (answered reply (now table) (now faults)) ⌝ }
+    ensures { λ r. ⌜ Appended (now (text .entry)) at (detail (numbered reply) (now (table .entry)) (now (faults .entry))) (now (text .exit)) r ⌝ }
+{
+    match reply {
+        Reply::Faulty(pass, total) => append_faults(text, at, faults, kept(total, faults)),
+        Reply::Accepted(records) => append_records(text, at, table, records),
+        _ => at,
+    }
+}
+
+// All that is printed, from the start of the text; it ends at the place returned.
+pub fn append_answer(text: &mut [u8], reply: Reply, table: &[u8], faults: &[u8]) -> usize
+    requires { ⌜ (340000 ≤ length (now text)) × (length (now table) ≤ 64000) × (length (now faults) ≤ 64000) × Whole (answered reply (now table) (now faults)) ⌝ }
+    ensures { λ r. ⌜ (now (text .exit) ≡ written (now (text .entry)) 0 (printed (answered reply (now (table .entry)) (now (faults .entry))))) × (r ≡ length (printed (answered reply (now (table .entry)) (now (faults .entry))))) ⌝ }
+{
+    let p = replies::append_reply(text, 0, reply);
+    append_detail(text, p, reply, table, faults)
+}

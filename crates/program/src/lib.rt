@@ -1,0 +1,67 @@
+// The program's body: standard input to its end, the analyzer, and the printed answer in one text.
+mod input;
+
+use input::Reading;
+use libc::STDOUT_FILENO;
+ghost use mathlib.Core.Path.{_≡_};
+ghost use Prim.Native.Nat.{_≤_};
+ghost use lib.ListN.{length};
+ghost use Rattle.rules.specs.Bytes.{written};
+ghost use Rattle.rules.specs.Replies.{answer};
+ghost use Rattle.rules.specs.Printed.{printed, program};
+
+// Room for every length of which the reply depends on more than the remainder, and for each remainder above.
+fn input_buffer() -> [u8; 64040]
+    ensures { λ r. ⌜ 64040 ≡ length r ⌝ }
+{
+    [0; 64040]
+}
+
+// Room for all that the program can print.
+fn text_buffer() -> [u8; 340000]
+    ensures { λ r. ⌜ 340000 ≡ length r ⌝ }
+{
+    [0; 340000]
+}
+
+// The analyzer with these buffers, and its answer, printed at the start of the text.
+fn answer_with(input: &[u8], table: &mut [u8], faults: &mut [u8], text: &mut [u8]) -> usize
+    requires { ⌜ (340000 ≤ length (now text)) × (length (now table) ≤ 64000) × (length (now faults) ≤ 64000) ⌝ }
+    ensures { λ r. ⌜ (now (text .exit) ≡ written (now (text .entry)) 0 (printed (answer (now (input .entry)) (now (table .entry)) (now (faults .entry))))) × (r ≡ length (printed (answer (now (input .entry)) (now (table .entry)) (now (faults .entry))))) ⌝ }
+{
+    let reply = analyzer::analyze(input, table, faults);
+    printed::append_answer(text, reply, table, faults)
+}
+
+// All that the program prints for an input, at the start of the text, and its length.
+pub fn answer_text(input: &[u8], text: &mut [u8]) -> usize
+    requires { ⌜ 340000 ≤ length (now text) ⌝ }
+    ensures { λ r. ⌜ (now (text .exit) ≡ written (now (text .entry)) 0 (program (now (input .entry)))) × (r ≡ length (program (now (input .entry)))) ⌝ }
+{
+    let mut table = [0u8; 64000];
+    let mut faults = [0u8; 64000];
+    answer_with(input, &mut table, &mut faults, text)
+}
+
+// Prints the answer in one piece. A write that fails is said on standard error.
+fn print(input: &[u8], text: &mut [u8])
+    requires { ⌜ 340000 ≤ length (now text) ⌝ }
+{
+    let n = answer_text(input, text);
+    if !io::write_all(STDOUT_FILENO, &text[..n]) {
+        os::fail(b"standard output");
+    }
+}
+
+// A read that fails is said on standard error, and nothing is answered.
+pub fn run() {
+    let mut input = input_buffer();
+    let mut chunk = io::large_buffer();
+    match input::read_all(&mut input, &mut chunk) {
+        Reading::End(n) => {
+            let mut text = text_buffer();
+            print(&input[..n], &mut text);
+        }
+        Reading::Failed => os::fail(b"standard input"),
+    }
+}

@@ -1,8 +1,0 @@
--- The lengths of a stored case fit the buffers.
-use Prim.Native.Nat.{ℕ, _≤_}
-use Rattle.stored.specs.declared.Next.{Next}
-use Rattle.stored.specs.declared.Next.the-variants.{Read, End}
-
-abbrev pub Fits : ℕ → Next → Type 0
-Fits n (Read c) = (c .input ≤ n) × (c .table ≤ 64000) × (c .faults ≤ 64000)
-Fits n End = Unit {0}
