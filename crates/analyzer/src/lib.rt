@@ -2,18 +2,24 @@
 use passes::check_passes;
 use rules::Layout;
 use rules::Reply;
+use rules::limits::RECORD_LENGTH;
+use rules::limits::TABLE_LENGTH;
+use table::FEW_RECORDS;
 ghost use mathlib.Core.Path.{_≡_};
 ghost use Prim.Native.Nat.{_≤_};
 ghost use lib.ListN.{length};
 ghost use Rattle.rules.specs.Table.{decode};
 ghost use Rattle.rules.specs.Replies.{answered, byPasses, answer};
 
+// The bytes of a table of few records.
+const FEW_LENGTH: usize = RECORD_LENGTH * FEW_RECORDS;
+
 // With a listed table of its own, as are those for the inlined table: the caller's buffer changes only on acceptance.
 fn check_small(input: &[u8], table: &mut [u8], faults: &mut [u8]) -> Reply
     requires { ⌜ length (decode (now input)) ≤ 64 ⌝ }
     ensures { λ r. ⌜ answered r (now (table .exit)) (now (faults .exit)) ≡ byPasses (decode (now (input .entry))) (now (table .entry)) (now (faults .entry)) ⌝ }
 {
-    let mut listed = [0u8; 2560];
+    let mut listed = [0u8; FEW_LENGTH];
     check_passes(input, &mut listed, table, faults)
 }
 
@@ -22,7 +28,7 @@ fn check_large(input: &[u8], table: &mut [u8], faults: &mut [u8]) -> Reply
     requires { ⌜ length (decode (now input)) ≤ 1600 ⌝ }
     ensures { λ r. ⌜ answered r (now (table .exit)) (now (faults .exit)) ≡ byPasses (decode (now (input .entry))) (now (table .entry)) (now (faults .entry)) ⌝ }
 {
-    let mut listed = [0u8; 64000];
+    let mut listed = [0u8; TABLE_LENGTH];
     check_passes(input, &mut listed, table, faults)
 }
 
@@ -31,7 +37,7 @@ fn check_table(input: &[u8], table: &mut [u8], faults: &mut [u8]) -> Reply
     requires { ⌜ length (decode (now input)) ≤ 1600 ⌝ }
     ensures { λ r. ⌜ answered r (now (table .exit)) (now (faults .exit)) ≡ byPasses (decode (now (input .entry))) (now (table .entry)) (now (faults .entry)) ⌝ }
 {
-    if 64 < table::count(input) {
+    if FEW_RECORDS < table::count(input) {
         return check_large(input, table, faults);
     }
     check_small(input, table, faults)

@@ -14,11 +14,11 @@ use Rattle.rules.specs.Ordering.{Accepts}
 use Rattle.rules.specs.declared.Fault.{Fault}
 use Rattle.faults.specs.Notes.{none}
 use Rattle.faults.proofs.Laws.{noted-logged, total-after}
-use Rattle.decl_visits.specs.declared.Progress.{Progress}
-use Rattle.decl_order.specs.declared.Outcome.{Outcome}
+use Rattle.decl_visits.specs.declared.VisitProgress.{VisitProgress}
+use Rattle.decl_order.specs.declared.OrderResult.{OrderResult}
 use Rattle.decl_visits.specs.Contract.{Held}
 use Rattle.decl_visits.proofs.Loop.{order-read, order-short}
-use Rattle.decl_order.specs.Contract.{Placed, Ordered, Checked, allBytes}
+use Rattle.decl_order.specs.Contract.{Placed, ListedAtStart, DeclIdentifiersChecked, allBytes}
 use Rattle.decl_order.proofs.Promise.{listed-declared}
 use Rattle.decl_order.proofs.Copies.{all-length, all-decode}
 use Rattle.decl_order.proofs.Room.{ordered-short}
@@ -45,7 +45,7 @@ some-found : (fs : List Fault) → 0 < length fs → fs ≡ [] → ⊥
 some-found fs l e = let z = ap length e in omega arith
 
 -- what the visits leave
-module _ (t o₀ f₀ m o f : List ℕ) (a : Progress) (h : Held (decode t) o₀ f₀ (visited (decode t)) m o f a) where
+module _ (t o₀ f₀ m o f : List ℕ) (a : VisitProgress) (h : Held (decode t) o₀ f₀ (visited (decode t)) m o f a) where
   faults-logged : log (a .tally) f ≡ logged f₀ (pass2 (decode t))
   unfolding pass2
   faults-logged = h .faults-are ∙ noted-logged f₀ (map (faultOf (decode t)) (visited (decode t) .faults))
@@ -54,7 +54,7 @@ module _ (t o₀ f₀ m o f : List ℕ) (a : Progress) (h : Held (decode t) o₀
   unfolding pass2
   total-is = total-after none f₀ (map (faultOf (decode t)) (visited (decode t) .faults)) (h .faults-are) ∙ zero-add (length (pass2 (decode t)))
 
-  pub ret-faulty : (out : List ℕ) → 0 < a .tally .total → Checked t f₀ out f out (record { records = 0; tally = a .tally })
+  pub ret-faulty : (out : List ℕ) → 0 < a .tally .total → DeclIdentifiersChecked t f₀ out f out (record { records = 0; tally = a .tally })
   ret-faulty out l =
       record {
         faults = faults-logged;
@@ -81,7 +81,7 @@ module _ (t o₀ f₀ m o f : List ℕ) (a : Progress) (h : Held (decode t) o₀
     )
 
     pub ret-copied : (out out′ : List ℕ) (n : ℕ) → (n ≡ length (allRecords (decode t) (take (a .listed) o))) × (out′ ≡ written out 0 (allBytes t (take (a .listed) o)))
-        → Checked t f₀ out f out′ (record { records = n; tally = a .tally })
+        → DeclIdentifiersChecked t f₀ out f out′ (record { records = n; tally = a .tally })
     unfolding ordered
     ret-copied out out′ n e =
         let bytes : out′ ≡ written out 0 (allBytes t (order (decode t))) = rw places-are at (e .1) in
@@ -109,10 +109,10 @@ part-zeros r n m e h = let z : r - 0 ≡ n = omega arith in rw z (zeros n m h)
 
 -- ---- what a caller reads from the total
 
-module _ (t b out b′ out′ : List ℕ) (r : Outcome) (h : Checked t b out b′ out′ r) where
+module _ (t b out b′ out′ : List ℕ) (r : OrderResult) (h : DeclIdentifiersChecked t b out b′ out′ r) where
   pub checked-total : r .tally .total ≡ length (pass2 (decode t))
   unfolding logged
   checked-total = ap (λ (l : Log). l .tally .total) (h .faults)
 
-  pub checked-ordered : r .tally .total ≡ 0 → Ordered t out out′ (r .records)
+  pub checked-ordered : r .tally .total ≡ 0 → ListedAtStart t out out′ (r .records)
   checked-ordered z = h .accepted (none-found (pass2 (decode t)) (sym checked-total ∙ z))

@@ -16,6 +16,7 @@ use Rattle.rules.specs.declared.Found.{Found}
 use Rattle.rules.specs.declared.Found.the-variants.{At, Nothing}
 use Rattle.rules.specs.declared.Target.the-variants.{Decl}
 use Rattle.table.proofs.Laws.{length-decode, first-in}
+use Rattle.search.proofs.members.Laws.{members-in}
 use Rattle.store.proofs.Laws.{length-written, written-more}
 use Rattle.decl_order.specs.Contract.{declBytes, allBytes, Placed}
 use Rattle.decl_order.proofs.Sorted.{mem-at}
@@ -73,16 +74,7 @@ module _ (rs : List Record) (d : ℕ) where
   count-rest l h = rw h (omega arith)
 
   pub count-fits : d < length rs → d + (1 + memberCount rs d) ≤ length rs
-  count-fits l = go (firstFrom rs Decl (d + 1)) refl
-    where
-      go : (f : Found) → firstFrom rs Decl (d + 1) ≡ f → d + (1 + memberCount rs d) ≤ length rs
-      go (At e) h =
-          let z = count-to e h in
-          let y = z .0 in
-          let x = z .1 in
-          let w = first-in (holdsAt rs Decl) (length rs) (d + 1) e h .1 in
-          omega arith
-      go Nothing h = let z = count-rest l h in omega arith
+  count-fits l = omega (arith, members-in rs d l)
 
   pub decl-length : d < length rs → length (declRecords rs d) ≡ 1 + memberCount rs d
   unfolding declRecords

@@ -10,7 +10,7 @@ use Rattle.rules.specs.Faults.{log, logged}
 use Rattle.rules.specs.DeclIdentifiers.{pass2, order, ordered, allRecords}
 use Rattle.rules.specs.Ordering.{Accepts}
 use Rattle.rules.specs.declared.Record.{Record}
-use Rattle.decl_order.specs.declared.Outcome.{Outcome}
+use Rattle.decl_order.specs.declared.OrderResult.{OrderResult}
 
 -- the bytes of the declarations at these places, in this order, unchanged
 unfoldable pub declBytes : List ℕ → ℕ → List ℕ
@@ -26,14 +26,14 @@ pub record Placed (rs : List Record) (l out : List ℕ) : Type 0 where
   pub fits : 40 * length (allRecords rs l) ≤ length out
 
 -- the n listed records stand at the start of the buffer, which is unchanged behind them
-pub record Ordered (t out out′ : List ℕ) (n : ℕ) : Type 0 where
+pub record ListedAtStart (t out out′ : List ℕ) (n : ℕ) : Type 0 where
   pub count : n ≡ length (ordered (decode t))
   pub short : n ≤ length (decode t)
   pub bytes : out′ ≡ written out 0 (allBytes t (order (decode t)))
   pub records : decode (take (40 * n) out′) ≡ ordered (decode t)
 
 -- the faults of pass 2; if there are none, the listed table, else the buffer as it was
-pub record Checked (t buffer out buffer′ out′ : List ℕ) (r : Outcome) : Type 0 where
+pub record DeclIdentifiersChecked (t buffer out buffer′ out′ : List ℕ) (r : OrderResult) : Type 0 where
   pub faults : log (r .tally) buffer′ ≡ logged buffer (pass2 (decode t))
-  pub accepted : Accepts (decode t) → Ordered t out out′ (r .records)
+  pub accepted : Accepts (decode t) → ListedAtStart t out out′ (r .records)
   pub refused : ¬ (Accepts (decode t)) → (r .records ≡ 0) × (out′ ≡ out)

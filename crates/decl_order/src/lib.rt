@@ -2,7 +2,10 @@
 use rules::Found;
 use rules::Tally;
 use rules::Target;
+use rules::limits::MOST_RECORDS;
 use search::first;
+use table::NO_PLACE;
+use table::REMAINDERS;
 ghost use mathlib.Core.Path.{_≡_};
 ghost use Prim.Native.Nat.{_+_, _*_, _≤_, _<_};
 ghost use lib.ListN.{length, take, replicate};
@@ -11,36 +14,25 @@ ghost use Rattle.rules.specs.Bytes.{written};
 ghost use Rattle.rules.specs.Places.{memberCount};
 ghost use Rattle.rules.specs.DeclIdentifiers.{allRecords};
 ghost use Rattle.declarations.specs.Starts.{Starts};
-ghost use Rattle.decl_order.specs.Contract.{allBytes, Placed, Checked};
+ghost use Rattle.decl_order.specs.Contract.{allBytes, Placed, DeclIdentifiersChecked};
 
 // How many records are listed, and the faults found.
-pub struct Outcome {
+pub struct OrderResult {
     pub records: usize,
     pub tally: Tally,
 }
 
-// How many records the declaration at d has, up to the next declaration.
-fn record_count(t: &[u8], d: usize) -> usize
-    requires { ⌜ d < length (decode (now t)) ⌝ }
-    ensures { λ r. ⌜ r ≡ 1 + memberCount (decode (now (t .entry))) d ⌝ }
-{
-    match first(t, Target::Decl, d + 1) {
-        Found::At(e) => e - d,
-        Found::Nothing => table::count(t) - d,
-    }
-}
-
-// Copies the records of the declarations at the first n places to the start of out. Returns how many records they are.
-fn copy_listed(t: &[u8], places: &[u16], n: usize, out: &mut [u8]) -> usize
-    requires { ⌜ (n ≤ length (now places)) × Placed (decode (now t)) (take n (now places)) (now out) ⌝ }
-    ensures { λ r. ⌜ (r ≡ length (allRecords (decode (now (t .entry))) (take n (now (places .entry))))) × (now (out .exit) ≡ written (now (out .entry)) 0 (allBytes (now (t .entry)) (take n (now (places .entry))))) ⌝ }
+// Copies the records of the declarations at the first `listed` places to the start of out. Returns how many records they are.
+fn copy_listed(table: &[u8], places: &[u16], listed: usize, out: &mut [u8]) -> usize
+    requires { ⌜ (listed ≤ length (now places)) × Placed (decode (now table)) (take listed (now places)) (now out) ⌝ }
+    ensures { λ r. ⌜ (r ≡ length (allRecords (decode (now (table .entry))) (take listed (now (places .entry))))) × (now (out .exit) ≡ written (now (out .entry)) 0 (allBytes (now (table .entry)) (take listed (now (places .entry))))) ⌝ }
 {
     let mut count = 0;
     let mut i = 0;
-    while i < n {
+    while i < listed {
         let d = places[i] as usize;
-        let m = record_count(t, d);
-        store::copy(out, count, t, d, m);
+        let m = 1 + search::members::member_count(table, d);
+        store::copy(out, count, table, d, m);
         count += m;
         i += 1;
     }
@@ -49,48 +41,48 @@ fn copy_listed(t: &[u8], places: &[u16], n: usize, out: &mut [u8]) -> usize
 
 // The visits with marks and places of the caller's, then the copy, if no fault is found.
 fn order_with(
-    t: &[u8],
+    table: &[u8],
     starts: &[u16],
     marks: &mut [u8],
     places: &mut [u16],
     buffer: &mut [u8],
     out: &mut [u8],
-) -> Outcome
-    requires { ⌜ (length (decode (now t)) ≤ 1600) × (now marks ≡ replicate (length (decode (now t))) 0) × (length (decode (now t)) ≤ length (now places)) × (40 * length (decode (now t)) ≤ length (now out)) × Starts (decode (now t)) (now starts) ⌝ }
-    ensures { λ r. ⌜ Checked (now (t .entry)) (now (buffer .entry)) (now (out .entry)) (now (buffer .exit)) (now (out .exit)) r ⌝ }
+) -> OrderResult
+    requires { ⌜ (length (decode (now table)) ≤ 1600) × (now marks ≡ replicate (length (decode (now table))) 0) × (length (decode (now table)) ≤ length (now places)) × (40 * length (decode (now table)) ≤ length (now out)) × Starts (decode (now table)) (now starts) ⌝ }
+    ensures { λ r. ⌜ DeclIdentifiersChecked (now (table .entry)) (now (buffer .entry)) (now (out .entry)) (now (buffer .exit)) (now (out .exit)) r ⌝ }
 {
-    let a = decl_visits::visit_all(t, starts, marks, places, buffer);
+    let a = decl_visits::visit_all(table, starts, marks, places, buffer);
     let tally = a.tally;
     if 0 < tally.total {
-        return Outcome { records: 0, tally };
+        return OrderResult { records: 0, tally };
     }
-    Outcome {
-        records: copy_listed(t, places, a.listed, out),
+    OrderResult {
+        records: copy_listed(table, places, a.listed, out),
         tally,
     }
 }
 
 // The pass with marks and places of its own.
-fn order_from(t: &[u8], starts: &[u16], buffer: &mut [u8], out: &mut [u8]) -> Outcome
-    requires { ⌜ (length (decode (now t)) ≤ 1600) × (40 * length (decode (now t)) ≤ length (now out)) × Starts (decode (now t)) (now starts) ⌝ }
-    ensures { λ r. ⌜ Checked (now (t .entry)) (now (buffer .entry)) (now (out .entry)) (now (buffer .exit)) (now (out .exit)) r ⌝ }
+fn order_from(table: &[u8], starts: &[u16], buffer: &mut [u8], out: &mut [u8]) -> OrderResult
+    requires { ⌜ (length (decode (now table)) ≤ 1600) × (40 * length (decode (now table)) ≤ length (now out)) × Starts (decode (now table)) (now starts) ⌝ }
+    ensures { λ r. ⌜ DeclIdentifiersChecked (now (table .entry)) (now (buffer .entry)) (now (out .entry)) (now (buffer .exit)) (now (out .exit)) r ⌝ }
 {
-    let n = table::count(t);
-    let mut marks = [0u8; 1600];
-    let mut places = [0u16; 1600];
-    order_with(t, starts, &mut marks[0..n], &mut places, buffer, out)
+    let n = table::count(table);
+    let mut marks = [0u8; MOST_RECORDS];
+    let mut places = [0u16; MOST_RECORDS];
+    order_with(table, starts, &mut marks[0..n], &mut places, buffer, out)
 }
 
 // Pass 2: its faults, and, if there are none, the listed table at the start of out, all others of its bytes unchanged.
-pub fn check_decl_identifiers(t: &[u8], buffer: &mut [u8], out: &mut [u8]) -> Outcome
-    requires { ⌜ (length (decode (now t)) ≤ 1600) × (40 * length (decode (now t)) ≤ length (now out)) ⌝ }
-    ensures { λ r. ⌜ Checked (now (t .entry)) (now (buffer .entry)) (now (out .entry)) (now (buffer .exit)) (now (out .exit)) r ⌝ }
+pub fn check_decl_identifiers(table: &[u8], buffer: &mut [u8], out: &mut [u8]) -> OrderResult
+    requires { ⌜ (length (decode (now table)) ≤ 1600) × (40 * length (decode (now table)) ≤ length (now out)) ⌝ }
+    ensures { λ r. ⌜ DeclIdentifiersChecked (now (table .entry)) (now (buffer .entry)) (now (out .entry)) (now (buffer .exit)) (now (out .exit)) r ⌝ }
 {
-    if declarations::starts::pays(t) {
-        let mut starts = [65535u16; 4093];
-        declarations::starts::fill(t, &mut starts);
-        return order_from(t, &starts, buffer, out);
+    if declarations::starts::is_large(table) {
+        let mut starts = [NO_PLACE; REMAINDERS];
+        declarations::starts::fill(table, &mut starts);
+        return order_from(table, &starts, buffer, out);
     }
     let none = [0u16; 0];
-    order_from(t, &none, buffer, out)
+    order_from(table, &none, buffer, out)
 }

@@ -4,67 +4,68 @@ pub mod field_references;
 use declarations::decl_named;
 use rules::Found;
 use rules::Reference;
+use rules::codes;
 ghost use mathlib.Core.Path.{_≡_};
 ghost use Rattle.rules.specs.Table.{decode};
 ghost use Rattle.declarations.specs.Starts.{Starts};
 ghost use Rattle.rules.specs.DeclIdentifiers.{parentReference, testReference, ownReference, rootReference};
 
-// The parent of the declaration at d.
-fn parent_reference(t: &[u8], d: usize, found: Found) -> Reference
-    ensures { λ r. ⌜ r ≡ parentReference (decode (now (t .entry))) d found ⌝ }
+// The parent of the declaration at `decl`.
+fn parent_reference(table: &[u8], decl: usize, found: Found) -> Reference
+    ensures { λ r. ⌜ r ≡ parentReference (decode (now (table .entry))) decl found ⌝ }
 {
     match found {
         Found::At(e) => {
-            let k = table::kind(t, d);
-            if table::kind(t, e) == k {
+            let k = table::kind(table, decl);
+            if table::kind(table, e) == k {
                 Reference::Follow(e)
             } else {
-                Reference::Wrong(8, d)
+                Reference::Wrong(codes::INVALID_PARENT_IDENTIFIER, decl)
             }
         }
-        Found::Nothing => Reference::Wrong(7, d),
+        Found::Nothing => Reference::Wrong(codes::UNDECLARED_PARENT_IDENTIFIER, decl),
     }
 }
 
-// The packet of the test at p.
-fn test_reference(t: &[u8], p: usize, found: Found) -> Reference
-    ensures { λ r. ⌜ r ≡ testReference (decode (now (t .entry))) p found ⌝ }
+// The packet of the test at `place`.
+fn test_reference(table: &[u8], place: usize, found: Found) -> Reference
+    ensures { λ r. ⌜ r ≡ testReference (decode (now (table .entry))) place found ⌝ }
 {
     match found {
         Found::At(e) => {
-            if table::kind(t, e) == 4 {
+            if table::kind(table, e) == kinds::PACKET {
                 Reference::Nowhere
             } else {
-                Reference::Wrong(10, p)
+                Reference::Wrong(codes::INVALID_TEST_IDENTIFIER, place)
             }
         }
-        Found::Nothing => Reference::Wrong(9, p),
+        Found::Nothing => Reference::Wrong(codes::UNDECLARED_TEST_IDENTIFIER, place),
     }
 }
 
-// The declaration at d, by its parent's name.
-pub fn own_reference(t: &[u8], starts: &[u16], d: usize) -> Reference
-    requires { ⌜ Starts (decode (now t)) (now starts) ⌝ }
-    ensures { λ r. ⌜ r ≡ ownReference (decode (now (t .entry))) d ⌝ }
+// The declaration at `decl`, by its parent's name.
+pub fn own_reference(table: &[u8], starts: &[u16], decl: usize) -> Reference
+    requires { ⌜ Starts (decode (now table)) (now starts) ⌝ }
+    ensures { λ r. ⌜ r ≡ ownReference (decode (now (table .entry))) decl ⌝ }
 {
-    let r = records::at(t, d);
-    if ((4 <= r.kind) & (r.kind <= 5)) & !(r.second == 0) {
-        return parent_reference(t, d, decl_named(t, starts, r.second));
+    let r = records::at(table, decl);
+    if kinds::is_packet_or_struct(r.kind) & !(r.second == 0) {
+        return parent_reference(table, decl, decl_named(table, starts, r.second));
     }
     Reference::Nowhere
 }
 
-// The record at p, in table order: a declaration is visited, a test is checked.
-pub fn root_reference(t: &[u8], starts: &[u16], p: usize) -> Reference
-    requires { ⌜ Starts (decode (now t)) (now starts) ⌝ }
-    ensures { λ r. ⌜ r ≡ rootReference (decode (now (t .entry))) p ⌝ }
+// The record at `place`, in table order: a declaration is visited, a test is checked.
+pub fn root_reference(table: &[u8], starts: &[u16], place: usize) -> Reference
+    requires { ⌜ Starts (decode (now table)) (now starts) ⌝ }
+    ensures { λ r. ⌜ r ≡ rootReference (decode (now (table .entry))) place ⌝ }
 {
-    let r = records::at(t, p);
-    if (1 <= r.kind) & (r.kind <= 6) {
-        return Reference::Follow(p);
+    let r = records::at(table, place);
+    if kinds::is_named_decl(r.kind) {
+        return Reference::Follow(place);
     }
-    if r.kind == 7 {
-        return test_reference(t, p, decl_named(t, starts, r.second));
+    if r.kind == kinds::TEST {
+        return test_reference(table, place, decl_named(table, starts, r.second));
     }
     Reference::Nowhere
 }

@@ -1,4 +1,4 @@
 pub mod Bounds
 pub mod Skips
-pub mod Ready
+pub mod VisitReady
 pub mod Loop

@@ -12,10 +12,10 @@ use Rattle.rules.specs.declared.Record.{Record}
 use Rattle.rules.specs.declared.Tally.{Tally}
 use Rattle.faults.specs.Notes.{none}
 use Rattle.faults.proofs.Laws.{noted-none}
-use Rattle.decl_visits.specs.declared.Progress.{Progress}
-use Rattle.decl_visits.specs.Contract.{unvisitedCount, Held, Ready, Visited}
+use Rattle.decl_visits.specs.declared.VisitProgress.{VisitProgress}
+use Rattle.decl_visits.specs.Contract.{unvisitedCount, Held, VisitReady, Visited}
 use Rattle.decl_visits.proofs.Bounds.{unvisited-all, resolve-bounds, walk-bounds, visit-bounds, references-length}
-use Rattle.decl_visits.proofs.Ready.{after}
+use Rattle.decl_visits.proofs.VisitReady.{after}
 
 unvisited-few : (l : List ℕ) → unvisitedCount l ≤ length l
 unfolding unvisitedCount
@@ -27,7 +27,7 @@ unvisited-few (suc m ∷ l) = let h = unvisited-few l in omega arith
 abbrev rest-of : List Record → ℕ → State → State
 rest-of rs p s = walk (visit (suc (length rs)) (references rs)) (rootReferences rs p (length rs - p)) s
 
-pub record Turn (rs : List Record) (o₀ f₀ m o f : List ℕ) (a : Progress) (p : ℕ) : Type 0 where
+pub record Turn (rs : List Record) (o₀ f₀ m o f : List ℕ) (a : VisitProgress) (p : ℕ) : Type 0 where
   pub state : State
   pub held : Held rs o₀ f₀ state m o f a
   pub few : length rs ≤ 1600
@@ -39,7 +39,7 @@ pub record Turn (rs : List Record) (o₀ f₀ m o f : List ℕ) (a : Progress) (
   pub places-long : length o ≡ length o₀
   pub buffer-long : length f ≡ length f₀
 
-pub loop-start : (rs : List Record) (m o f : List ℕ) (a : Progress) → length rs ≤ 1600 → m ≡ replicate (length rs) 0 → length rs ≤ length o
+pub loop-start : (rs : List Record) (m o f : List ℕ) (a : VisitProgress) → length rs ≤ 1600 → m ≡ replicate (length rs) 0 → length rs ≤ length o
     → a .listed ≡ 0 → a .tally ≡ none → Turn rs o f m o f a 0
 unfolding visited visitAll
 loop-start rs m o f a few e room l g =
@@ -63,8 +63,8 @@ loop-start rs m o f a few e room l g =
       buffer-long = refl;
     }
 
-module _ (rs : List Record) (o₀ f₀ m o f : List ℕ) (a : Progress) (p : ℕ) (h : Turn rs o₀ f₀ m o f a p) where
-  ready : (x : ℕ) → x ≤ length rs - p → Ready rs m o f a x 0
+module _ (rs : List Record) (o₀ f₀ m o f : List ℕ) (a : VisitProgress) (p : ℕ) (h : Turn rs o₀ f₀ m o f a p) where
+  ready : (x : ℕ) → x ≤ length rs - p → VisitReady rs m o f a x 0
   ready x l =
       let s = h .spare in
       record {
@@ -86,10 +86,10 @@ module _ (rs : List Record) (o₀ f₀ m o f : List ℕ) (a : Progress) (p : ℕ
       subst (λ (s : State). Held rs o₀ f₀ s m o f a) e (h .held)
 
   module _ (l : p < length rs) where
-    pub loop-call : Ready rs m o f a 1 0
+    pub loop-call : VisitReady rs m o f a 1 0
     loop-call = ready 1 (omega arith)
 
-    pub loop-turn : (m′ o′ f′ : List ℕ) (a′ : Progress) → Visited rs (rootReference rs p) m o f a m′ o′ f′ a′ → length o′ ≡ length o → length f′ ≡ length f
+    pub loop-turn : (m′ o′ f′ : List ℕ) (a′ : VisitProgress) → Visited rs (rootReference rs p) m o f a m′ o′ f′ a′ → length o′ ≡ length o → length f′ ≡ length f
         → Turn rs o₀ f₀ m′ o′ f′ a′ (p + 1)
     unfolding walk rootReferences ready
     loop-turn m′ o′ f′ a′ v lo lf =
@@ -124,7 +124,7 @@ order-short rs few =
     omega arith
 
 -- the first places of the slice are the order
-pub order-read : (rs : List Record) (o₀ f₀ m o f : List ℕ) (a : Progress) → length rs ≤ 1600 → length rs ≤ length o₀ → Held rs o₀ f₀ (visited rs) m o f a → take (a .listed) o ≡ visited rs .order
+pub order-read : (rs : List Record) (o₀ f₀ m o f : List ℕ) (a : VisitProgress) → length rs ≤ 1600 → length rs ≤ length o₀ → Held rs o₀ f₀ (visited rs) m o f a → take (a .listed) o ≡ visited rs .order
 order-read rs o₀ f₀ m o f a few room h =
     let s = order-short rs few in
     let l : 0 + length (visited rs .order) ≤ length o₀ = omega arith in

@@ -15,7 +15,7 @@ use Rattle.rules.specs.declared.Record.{Record}
 use Rattle.rules.specs.declared.Reference.{Reference}
 use Rattle.rules.specs.declared.Reference.the-variants.{Nowhere, Wrong, Follow}
 use Rattle.faults.specs.Notes.{none, notedAll}
-use Rattle.decl_visits.specs.declared.Progress.{Progress}
+use Rattle.decl_visits.specs.declared.VisitProgress.{VisitProgress}
 
 -- how many marks are of places not visited yet
 unfoldable pub unvisitedCount : List ℕ → ℕ
@@ -36,14 +36,14 @@ abbrev pub refersNowhere : List Record → ℕ → Bool
 refersNowhere rs p = memberAt rs p && not (refers (at rs p .kind))
 
 -- the slices and the counts hold the state s; the places and the fault buffer were o₀ and f₀
-pub record Held (rs : List Record) (o₀ f₀ : List ℕ) (s : State) (marks places buffer : List ℕ) (a : Progress) : Type 0 where
+pub record Held (rs : List Record) (o₀ f₀ : List ℕ) (s : State) (marks places buffer : List ℕ) (a : VisitProgress) : Type 0 where
   pub marks-are : marks ≡ s .marks
   pub places-are : places ≡ sets o₀ 0 (s .order)
   pub listed-is : a .listed ≡ length (s .order)
   pub faults-are : log (a .tally) buffer ≡ notedAll (log none f₀) (map (faultOf rs) (s .faults))
 
 -- they hold some state, with room for x more faults and y more places than the unvisited ones bring
-pub record Ready (rs : List Record) (marks places buffer : List ℕ) (a : Progress) (x y : ℕ) : Type 0 where
+pub record VisitReady (rs : List Record) (marks places buffer : List ℕ) (a : VisitProgress) (x y : ℕ) : Type 0 where
   pub state : State
   pub places₀ : List ℕ
   pub buffer₀ : List ℕ
@@ -60,12 +60,12 @@ Within n (Wrong c p) = Unit {0}
 Within n (Follow d) = d < n
 
 -- whatever state they held, they now hold it with the reference r taken up
-abbrev pub Visited : List Record → Reference → List ℕ → List ℕ → List ℕ → Progress → List ℕ → List ℕ → List ℕ → Progress → Type 0
+abbrev pub Visited : List Record → Reference → List ℕ → List ℕ → List ℕ → VisitProgress → List ℕ → List ℕ → List ℕ → VisitProgress → Type 0
 Visited rs r m o f a m′ o′ f′ a′ =
     (k : ℕ) (o₀ f₀ : List ℕ) (s : State) → unvisitedCount m < k → Held rs o₀ f₀ s m o f a → Held rs o₀ f₀ (resolve (visit k (references rs)) r s) m′ o′ f′ a′
 
 -- the same of the references of the fields from p on
-abbrev pub Walked : List Record → ℕ → List ℕ → List ℕ → List ℕ → Progress → List ℕ → List ℕ → List ℕ → Progress → Type 0
+abbrev pub Walked : List Record → ℕ → List ℕ → List ℕ → List ℕ → VisitProgress → List ℕ → List ℕ → List ℕ → VisitProgress → Type 0
 Walked rs p m o f a m′ o′ f′ a′ =
     (k : ℕ) (o₀ f₀ : List ℕ) (s : State) → unvisitedCount m < k → Held rs o₀ f₀ s m o f a
     → Held rs o₀ f₀ (walk (visit k (references rs)) (fieldReferences rs p (length rs - p)) s) m′ o′ f′ a′

@@ -3,6 +3,7 @@ pub mod starts;
 
 use rules::Found;
 use rules::Target;
+use table::DIVISOR;
 ghost use mathlib.Core.Path.{_≡_};
 ghost use Prim.Native.Nat.{_%_};
 ghost use lib.ListN.{getD};
@@ -15,7 +16,7 @@ ghost use Rattle.declarations.specs.Starts.{Starts};
 fn start(starts: &[u16], name: u16) -> usize
     ensures { λ r. ⌜ r ≡ getD (now (starts .entry)) (name % 4093) 0 ⌝ }
 {
-    let h = (name % 4093) as usize;
+    let h = (name % DIVISOR) as usize;
     if h < starts.len() {
         return starts[h] as usize;
     }
@@ -23,21 +24,21 @@ fn start(starts: &[u16], name: u16) -> usize
 }
 
 // The declaration of a name.
-pub fn decl_named(t: &[u8], starts: &[u16], name: u16) -> Found
-    requires { ⌜ Starts (decode (now t)) (now starts) ⌝ }
-    ensures { λ r. ⌜ r ≡ declNamed (decode (now (t .entry))) name ⌝ }
+pub fn decl_named(table: &[u8], starts: &[u16], name: u16) -> Found
+    requires { ⌜ Starts (decode (now table)) (now starts) ⌝ }
+    ensures { λ r. ⌜ r ≡ declNamed (decode (now (table .entry))) name ⌝ }
 {
-    search::first(t, Target::DeclNamed(name), start(starts, name))
+    search::first(table, Target::DeclNamed(name), start(starts, name))
 }
 
-// The nearest declaration before p that has the name of the record at p.
-pub fn earlier(t: &[u8], starts: &[u16], p: usize) -> Found
-    requires { ⌜ Starts (decode (now t)) (now starts) ⌝ }
-    ensures { λ r. ⌜ r ≡ nearest (holdsAt (decode (now (t .entry))) (DeclNamed (at (decode (now (t .entry))) p .name))) p ⌝ }
+// The nearest declaration before `place` that has the name of the record at `place`.
+pub fn earlier(table: &[u8], starts: &[u16], place: usize) -> Found
+    requires { ⌜ Starts (decode (now table)) (now starts) ⌝ }
+    ensures { λ r. ⌜ r ≡ nearest (holdsAt (decode (now (table .entry))) (DeclNamed (at (decode (now (table .entry))) place .name))) place ⌝ }
 {
-    let name = table::name(t, p);
-    if (start(starts, name) == p) & (p < table::count(t)) {
+    let name = table::name(table, place);
+    if (start(starts, name) == place) & (place < table::count(table)) {
         return Found::Nothing;
     }
-    search::nearest(t, Target::DeclNamed(name), p)
+    search::nearest(table, Target::DeclNamed(name), place)
 }

@@ -17,7 +17,7 @@ use Rattle.rules.specs.declared.Record.{Record}
 use Rattle.rules.specs.declared.Found.{Found}
 use Rattle.rules.specs.declared.Found.the-variants.{At, Nothing}
 use Rattle.rules.specs.declared.Reply.the-variants.{Loose, Overlisted, NoRoom, Accepted}
-use Rattle.flag_table.specs.Appended.{Room}
+use Rattle.flag_table.specs.RecordsAppended.{RoomForRecords}
 
 -- what the code reads of a condition and of its field
 module _ (rs : List Record) (q : ℕ) {c : Record} (e : c ≡ at rs q) where
@@ -43,7 +43,7 @@ module _ (dr : List Record) (t : List ℕ) {n : ℕ} (e : n ≡ length dr) where
     unfolding fitted
     reply-accepted g w f = let i : 40 * length dr ≤ length t = omega arith in rw (fitted, le-ltb _ _ few, le-ltb _ _ i, e, w)
 
-    pub room-all : 40 * n ≤ length t → Room t 0 dr
+    pub room-all : 40 * n ≤ length t → RoomForRecords t 0 dr
     room-all g = record { few = omega arith; fits = omega arith }
 
 pub loose-is : (rs : List Record) (n : ℕ) {f : Found} → n ≡ length rs → f ≡ first (looseAt rs) 0 (n - 0) → f ≡ firstLoose rs

@@ -20,24 +20,6 @@ use Rattle.enum_ranges.proofs.Sorts.{length-sorted}
 use Rattle.enum_ranges.proofs.overlaps.Laws.{overlap-few}
 use Rattle.enum_declarations.proofs.tags.Laws.{tag-few}
 
--- the tags of an enum
-module _ (rs : List Record) (d : ℕ) where
-  counted : (x : Found) → ((e : ℕ) → x ≡ At e → (d + 1 ≤ e) × (e < length rs)) → d < length rs → d + 1 + upTo (length rs) (d + 1) x ≤ length rs
-  counted (At e) h g = let z = h e refl in omega arith
-  counted Nothing h g = omega arith
-
-  pub tags-in : d < length rs → d + 1 + memberCount rs d ≤ length rs
-  unfolding memberCount
-  tags-in g = counted (first (holdsAt rs Decl) (d + 1) (length rs - (d + 1))) (first-in (holdsAt rs Decl) (length rs) (d + 1)) g
-
-  pub count-at : (e : ℕ) → d < length rs → first (holdsAt rs Decl) (d + 1) (length rs - (d + 1)) ≡ At e → (d + 1 ≤ e) × (e - (d + 1) ≡ memberCount rs d)
-  unfolding memberCount
-  count-at e g h = (first-in (holdsAt rs Decl) (length rs) (d + 1) e h .0, rw h)
-
-  pub count-end : first (holdsAt rs Decl) (d + 1) (length rs - (d + 1)) ≡ Nothing → length rs - (d + 1) ≡ memberCount rs d
-  unfolding memberCount
-  count-end h = rw h
-
 range-few-at : (rs : List Record) (q : ℕ) → length (rangeAt rs q) ≤ 1
 range-few-at rs q = when-few (eqb (at rs q .kind) 41) q
 

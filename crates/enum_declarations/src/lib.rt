@@ -5,6 +5,7 @@ use repeats::marks::Key;
 use rules::Found;
 use rules::Tally;
 use rules::Target;
+use rules::limits::MOST_RECORDS;
 ghost use mathlib.Core.Path.{_≡_};
 ghost use Prim.Native.Nat.{_+_, _^_, _<_, _≤_};
 ghost use mathlib.Core.List.{[]};
@@ -19,105 +20,104 @@ ghost use Rattle.repeats.specs.Marks.{Marked};
 ghost use Rattle.enum_ranges.specs.Bounds.{Bounds};
 ghost use Rattle.repeats.specs.declared.marks.Key.the-variants.{TagNames, TagValues};
 
-// How many tags the enum at d has: those up to the next declaration.
-fn tag_count(t: &[u8], d: usize) -> usize
-    requires { ⌜ d < length (decode (now t)) ⌝ }
-    ensures { λ r. ⌜ (r ≡ memberCount (decode (now (t .entry))) d) × (d + 1 + r ≤ length (decode (now (t .entry)))) ⌝ }
-{
-    let a = d + 1;
-    match search::first(t, Target::Decl, a) {
-        Found::At(e) => e - a,
-        Found::Nothing => table::count(t) - a,
-    }
-}
-
-// The tags of the enum at d, which has n of them. The first m numbers are the bounds of its ranges.
+// The tags of the enum at `decl`, which has `tags` of them. The first `ranges` numbers are the bounds of its ranges.
 fn note_tags(
-    t: &[u8],
+    table: &[u8],
     names: &[u8],
     values: &[u8],
     lows: &[u64],
     highs: &[u64],
-    m: usize,
-    d: usize,
-    n: usize,
+    ranges: usize,
+    decl: usize,
+    tags: usize,
     tally: Tally,
     buffer: &mut [u8],
 ) -> Tally
-    requires { ⌜ (d + 1 + n ≤ 1600) × (tally .total + 3000000 < 2 ^ 64) × Bounds (decode (now t)) d n m (now lows) (now highs) × Marked (decode (now t)) TagNames (now names) × Marked (decode (now t)) TagValues (now values) ⌝ }
-    ensures { λ r. ⌜ log r (now (buffer .exit)) ≡ notedAll (log tally (now (buffer .entry))) (tagsFaults (decode (now (t .entry))) d n) ⌝ }
+    requires { ⌜ (decl + 1 + tags ≤ 1600) × (tally .total + 3000000 < 2 ^ 64) × Bounds (decode (now table)) decl tags ranges (now lows) (now highs) × Marked (decode (now table)) TagNames (now names) × Marked (decode (now table)) TagValues (now values) ⌝ }
+    ensures { λ r. ⌜ log r (now (buffer .exit)) ≡ notedAll (log tally (now (buffer .entry))) (tagsFaults (decode (now (table .entry))) decl tags) ⌝ }
 {
     let mut kept = tally;
-    let mut after = d + 1;
+    let mut after = decl + 1;
     let mut i = 0;
-    while i < n {
-        let p = d + 1 + i;
+    while i < tags {
+        let p = decl + 1 + i;
         kept = tags::note_tag(
-            t,
+            table,
             names,
             values,
             lows,
             highs,
-            m,
-            d,
-            n,
+            ranges,
+            decl,
+            tags,
             after,
             p,
             kept,
             buffer,
         );
-        after = tags::after_range(t, after, p);
+        after = tags::after_range(table, after, p);
         i += 1;
     }
     kept
 }
 
-// The enum at d, which has n tags: the tags, and then the ranges. 1,600 tags have at most 1,600 × 1,603 faults, and 1,600 overlaps.
+// The enum at `decl`, which has `tags` tags: the tags, and then the ranges. 1,600 tags have at most 1,600 × 1,603 faults, and 1,600 overlaps.
 fn note_enum(
-    t: &[u8],
+    table: &[u8],
     names: &[u8],
     values: &[u8],
-    d: usize,
-    n: usize,
-    s: &mut [u16],
+    decl: usize,
+    tags: usize,
+    places: &mut [u16],
     lows: &mut [u64],
     highs: &mut [u64],
     tally: Tally,
     buffer: &mut [u8],
 ) -> Tally
-    requires { ⌜ (d + 1 + n ≤ 1600) × (1600 ≤ length (now s)) × (1600 ≤ length (now lows)) × (1600 ≤ length (now highs)) × (tally .total + 4000000 < 2 ^ 64) × Marked (decode (now t)) TagNames (now names) × Marked (decode (now t)) TagValues (now values) ⌝ }
-    ensures { λ r. ⌜ log r (now (buffer .exit)) ≡ notedAll (log tally (now (buffer .entry))) (enumFaults (decode (now (t .entry))) d n) ⌝ }
+    requires { ⌜ (decl + 1 + tags ≤ 1600) × (1600 ≤ length (now places)) × (1600 ≤ length (now lows)) × (1600 ≤ length (now highs)) × (tally .total + 4000000 < 2 ^ 64) × Marked (decode (now table)) TagNames (now names) × Marked (decode (now table)) TagValues (now values) ⌝ }
+    ensures { λ r. ⌜ log r (now (buffer .exit)) ≡ notedAll (log tally (now (buffer .entry))) (enumFaults (decode (now (table .entry))) decl tags) ⌝ }
 {
-    let m = enum_ranges::arrange(t, d, n, s, lows, highs);
-    let kept = note_tags(t, names, values, lows, highs, m, d, n, tally, buffer);
-    enum_ranges::overlaps::note_overlaps(t, s, m, kept, buffer)
+    let m = enum_ranges::arrange(table, decl, tags, places, lows, highs);
+    let kept = note_tags(
+        table,
+        names,
+        values,
+        lows,
+        highs,
+        m,
+        decl,
+        tags,
+        tally,
+        buffer,
+    );
+    enum_ranges::overlaps::note_overlaps(table, places, m, kept, buffer)
 }
 
-// What stands at d, if it is an enum.
+// What stands at `decl`, if it is an enum.
 fn note_place(
-    t: &[u8],
+    table: &[u8],
     names: &[u8],
     values: &[u8],
-    d: usize,
-    s: &mut [u16],
+    decl: usize,
+    places: &mut [u16],
     lows: &mut [u64],
     highs: &mut [u64],
     tally: Tally,
     buffer: &mut [u8],
 ) -> Tally
-    requires { ⌜ (d < length (decode (now t))) × (length (decode (now t)) ≤ 1600) × (1600 ≤ length (now s)) × (1600 ≤ length (now lows)) × (1600 ≤ length (now highs)) × (tally .total + 4000000 < 2 ^ 64) × Marked (decode (now t)) TagNames (now names) × Marked (decode (now t)) TagValues (now values) ⌝ }
-    ensures { λ r. ⌜ log r (now (buffer .exit)) ≡ notedAll (log tally (now (buffer .entry))) (pass4At (decode (now (t .entry))) d) ⌝ }
+    requires { ⌜ (decl < length (decode (now table))) × (length (decode (now table)) ≤ 1600) × (1600 ≤ length (now places)) × (1600 ≤ length (now lows)) × (1600 ≤ length (now highs)) × (tally .total + 4000000 < 2 ^ 64) × Marked (decode (now table)) TagNames (now names) × Marked (decode (now table)) TagValues (now values) ⌝ }
+    ensures { λ r. ⌜ log r (now (buffer .exit)) ≡ notedAll (log tally (now (buffer .entry))) (pass4At (decode (now (table .entry))) decl) ⌝ }
 {
-    if table::kind(t, d) != 3 {
+    if table::kind(table, decl) != kinds::ENUM {
         return tally;
     }
     note_enum(
-        t,
+        table,
         names,
         values,
-        d,
-        tag_count(t, d),
-        s,
+        decl,
+        search::members::member_count(table, decl),
+        places,
         lows,
         highs,
         tally,
@@ -125,37 +125,37 @@ fn note_place(
     )
 }
 
-// All enums. s is room for the places of an enum's ranges, lows and highs for their bounds.
+// All enums. `places` is room for the places of an enum's ranges, lows and highs for their bounds.
 fn note_enums(
-    t: &[u8],
+    table: &[u8],
     names: &[u8],
     values: &[u8],
-    s: &mut [u16],
+    places: &mut [u16],
     lows: &mut [u64],
     highs: &mut [u64],
     buffer: &mut [u8],
 ) -> Tally
-    requires { ⌜ (length (decode (now t)) ≤ 1600) × (1600 ≤ length (now s)) × (1600 ≤ length (now lows)) × (1600 ≤ length (now highs)) × Marked (decode (now t)) TagNames (now names) × Marked (decode (now t)) TagValues (now values) ⌝ }
-    ensures { λ r. ⌜ log r (now (buffer .exit)) ≡ logged (now (buffer .entry)) (pass4 (decode (now (t .entry)))) ⌝ }
+    requires { ⌜ (length (decode (now table)) ≤ 1600) × (1600 ≤ length (now places)) × (1600 ≤ length (now lows)) × (1600 ≤ length (now highs)) × Marked (decode (now table)) TagNames (now names) × Marked (decode (now table)) TagValues (now values) ⌝ }
+    ensures { λ r. ⌜ log r (now (buffer .exit)) ≡ logged (now (buffer .entry)) (pass4 (decode (now (table .entry)))) ⌝ }
 {
-    let n = table::count(t);
+    let n = table::count(table);
     let mut tally = faults::no_faults();
     let mut d = 0;
     while d < n {
-        tally = note_place(t, names, values, d, s, lows, highs, tally, buffer);
+        tally = note_place(table, names, values, d, places, lows, highs, tally, buffer);
         d += 1;
     }
     tally
 }
 
 // Whether there is an enum at all.
-fn has_enum(t: &[u8]) -> bool
-    ensures { λ r. ⌜ (r ≡ false → pass4 (decode (now (t .entry))) ≡ []) ⌝ }
+fn has_enum(table: &[u8]) -> bool
+    ensures { λ r. ⌜ (r ≡ false → pass4 (decode (now (table .entry))) ≡ []) ⌝ }
 {
-    let n = table::count(t);
+    let n = table::count(table);
     let mut d = 0;
     while d < n {
-        if table::kind(t, d) == 3 {
+        if table::kind(table, d) == kinds::ENUM {
             return true;
         }
         d += 1;
@@ -164,27 +164,35 @@ fn has_enum(t: &[u8]) -> bool
 }
 
 // All faults of pass 4, with arrays for a table of any length.
-fn check_all(t: &[u8], buffer: &mut [u8]) -> Tally
-    requires { ⌜ length (decode (now t)) ≤ 1600 ⌝ }
-    ensures { λ r. ⌜ log r (now (buffer .exit)) ≡ logged (now (buffer .entry)) (pass4 (decode (now (t .entry)))) ⌝ }
+fn check_all(table: &[u8], buffer: &mut [u8]) -> Tally
+    requires { ⌜ length (decode (now table)) ≤ 1600 ⌝ }
+    ensures { λ r. ⌜ log r (now (buffer .exit)) ≡ logged (now (buffer .entry)) (pass4 (decode (now (table .entry)))) ⌝ }
 {
-    let mut names = [1u8; 1600];
-    let mut values = [1u8; 1600];
-    let mut s = [0u16; 1600];
-    let mut lows = [0u64; 1600];
-    let mut highs = [0u64; 1600];
-    repeats::marks::mark(t, Key::TagNames, &mut names);
-    repeats::marks::mark(t, Key::TagValues, &mut values);
-    note_enums(t, &names, &values, &mut s, &mut lows, &mut highs, buffer)
+    let mut names = [1u8; MOST_RECORDS];
+    let mut values = [1u8; MOST_RECORDS];
+    let mut s = [0u16; MOST_RECORDS];
+    let mut lows = [0u64; MOST_RECORDS];
+    let mut highs = [0u64; MOST_RECORDS];
+    repeats::marks::mark(table, Key::TagNames, &mut names);
+    repeats::marks::mark(table, Key::TagValues, &mut values);
+    note_enums(
+        table,
+        &names,
+        &values,
+        &mut s,
+        &mut lows,
+        &mut highs,
+        buffer,
+    )
 }
 
 // All faults of pass 4. Without a bound on the table their number, a cube, would not fit the total. Without an enum no array is cleared.
-pub fn check_enum_declarations(t: &[u8], buffer: &mut [u8]) -> Tally
-    requires { ⌜ length (decode (now t)) ≤ 1600 ⌝ }
-    ensures { λ r. ⌜ log r (now (buffer .exit)) ≡ logged (now (buffer .entry)) (pass4 (decode (now (t .entry)))) ⌝ }
+pub fn check_enum_declarations(table: &[u8], buffer: &mut [u8]) -> Tally
+    requires { ⌜ length (decode (now table)) ≤ 1600 ⌝ }
+    ensures { λ r. ⌜ log r (now (buffer .exit)) ≡ logged (now (buffer .entry)) (pass4 (decode (now (table .entry)))) ⌝ }
 {
-    if !has_enum(t) {
+    if !has_enum(table) {
         return faults::no_faults();
     }
-    check_all(t, buffer)
+    check_all(table, buffer)
 }

@@ -12,6 +12,7 @@ use rules::Found;
 use rules::Record;
 use rules::Tally;
 use rules::Target;
+use rules::codes;
 ghost use mathlib.Core.Path.{_≡_};
 ghost use mathlib.Core.List.{[], _∷_, _++_};
 ghost use Prim.Native.Nat.{_+_, _^_, _<_, _≤_};
@@ -26,11 +27,11 @@ ghost use Rattle.enum_ranges.specs.Bounds.{Bounds};
 ghost use Rattle.enum_declarations.specs.Before.{rangeBefore};
 
 // The range that a search found.
-fn range_found(t: &[u8], found: Found) -> Record
-    ensures { λ r. ⌜ r ≡ rangeFound (decode (now (t .entry))) found ⌝ }
+fn range_found(table: &[u8], found: Found) -> Record
+    ensures { λ r. ⌜ r ≡ rangeFound (decode (now (table .entry))) found ⌝ }
 {
     match found {
-        Found::At(q) => records::at(t, q),
+        Found::At(q) => records::at(table, q),
         Found::Nothing => Record {
             kind: 0,
             marks: 0,
@@ -47,151 +48,205 @@ fn range_found(t: &[u8], found: Found) -> Record
 }
 
 // Three findings, one after the other.
-fn note_three(tally: Tally, buffer: &mut [u8], x: Finding, y: Finding, z: Finding) -> Tally
+fn note_three(
+    tally: Tally,
+    buffer: &mut [u8],
+    first: Finding,
+    second: Finding,
+    third: Finding,
+) -> Tally
     requires { ⌜ tally .total + 4 < 2 ^ 64 ⌝ }
-    ensures { λ r. ⌜ log r (now (buffer .exit)) ≡ notedAll (log tally (now (buffer .entry))) (findings x ++ findings y ++ findings z) ⌝ }
+    ensures { λ r. ⌜ log r (now (buffer .exit)) ≡ notedAll (log tally (now (buffer .entry))) (findings first ++ findings second ++ findings third) ⌝ }
 {
-    let a = faults::notes::note_found(tally, buffer, x);
-    let b = faults::notes::note_found(a, buffer, y);
-    faults::notes::note_found(b, buffer, z)
+    let a = faults::notes::note_found(tally, buffer, first);
+    let b = faults::notes::note_found(a, buffer, second);
+    faults::notes::note_found(b, buffer, third)
 }
 
 // A value within bounds: 12, 13, 14.
 fn note_value(
-    t: &[u8],
+    table: &[u8],
     names: &[u8],
     values: &[u8],
     low: u64,
     high: u64,
-    p: usize,
+    place: usize,
     tally: Tally,
     buffer: &mut [u8],
 ) -> Tally
-    requires { ⌜ (tally .total + 4 < 2 ^ 64) × Marked (decode (now t)) TagNames (now names) × Marked (decode (now t)) TagValues (now values) ⌝ }
-    ensures { λ r. ⌜ log r (now (buffer .exit)) ≡ notedAll (log tally (now (buffer .entry))) (valueFaults (decode (now (t .entry))) low high p) ⌝ }
+    requires { ⌜ (tally .total + 4 < 2 ^ 64) × Marked (decode (now table)) TagNames (now names) × Marked (decode (now table)) TagValues (now values) ⌝ }
+    ensures { λ r. ⌜ log r (now (buffer .exit)) ≡ notedAll (log tally (now (buffer .entry))) (valueFaults (decode (now (table .entry))) low high place) ⌝ }
 {
-    let r = records::at(t, p);
+    let r = records::at(table, place);
     let v = r.one;
-    let x = again_marked(12, t, Key::TagNames, p, names);
-    let y = again_marked(13, t, Key::TagValues, p, values);
-    let z = when((v < low) | (high < v), faults::fault::single(14, r));
+    let x = again_marked(
+        codes::DUPLICATE_TAG_IDENTIFIER,
+        table,
+        Key::TagNames,
+        place,
+        names,
+    );
+    let y = again_marked(
+        codes::DUPLICATE_TAG_VALUE,
+        table,
+        Key::TagValues,
+        place,
+        values,
+    );
+    let z = when(
+        (v < low) | (high < v),
+        faults::fault::single(codes::INVALID_TAG_VALUE, r),
+    );
     note_three(tally, buffer, x, y, z)
 }
 
 // The same fault several times.
-fn note_times(f: Fault, times: usize, tally: Tally, buffer: &mut [u8]) -> Tally
+fn note_times(fault: Fault, times: usize, tally: Tally, buffer: &mut [u8]) -> Tally
     requires { ⌜ (times ≤ 1600) × (tally .total + 1601 < 2 ^ 64) ⌝ }
-    ensures { λ r. ⌜ log r (now (buffer .exit)) ≡ notedAll (log tally (now (buffer .entry))) (each (λ _. f ∷ []) times) ⌝ }
+    ensures { λ r. ⌜ log r (now (buffer .exit)) ≡ notedAll (log tally (now (buffer .entry))) (each (λ _. fault ∷ []) times) ⌝ }
 {
     let mut kept = tally;
     let mut j = 0;
     while j < times {
-        kept = faults::notes::note_found(kept, buffer, Finding::One(f));
+        kept = faults::notes::note_found(kept, buffer, Finding::One(fault));
         j += 1;
     }
     kept
 }
 
-// 43 for each range of the enum at d, which has n tags, that holds the value at p. The first m numbers are the ranges' bounds.
+// 43 for each range of the enum at `decl`, which has `tags` tags, that holds the value at `place`. The first `ranges` numbers are the ranges' bounds.
 fn note_held(
-    t: &[u8],
+    table: &[u8],
     lows: &[u64],
     highs: &[u64],
-    m: usize,
-    d: usize,
-    n: usize,
-    p: usize,
+    ranges: usize,
+    decl: usize,
+    tags: usize,
+    place: usize,
     tally: Tally,
     buffer: &mut [u8],
 ) -> Tally
-    requires { ⌜ (n ≤ 1600) × (tally .total + 1601 < 2 ^ 64) × Bounds (decode (now t)) d n m (now lows) (now highs) ⌝ }
-    ensures { λ r. ⌜ log r (now (buffer .exit)) ≡ notedAll (log tally (now (buffer .entry))) (held (decode (now (t .entry))) d n p) ⌝ }
+    requires { ⌜ (tags ≤ 1600) × (tally .total + 1601 < 2 ^ 64) × Bounds (decode (now table)) decl tags ranges (now lows) (now highs) ⌝ }
+    ensures { λ r. ⌜ log r (now (buffer .exit)) ≡ notedAll (log tally (now (buffer .entry))) (held (decode (now (table .entry))) decl tags place) ⌝ }
 {
-    let r = records::at(t, p);
-    let count = holders(lows, highs, m, r.one);
-    note_times(faults::fault::single(43, r), count, tally, buffer)
+    let r = records::at(table, place);
+    let count = holders(lows, highs, ranges, r.one);
+    note_times(faults::fault::single(codes::E43, r), count, tally, buffer)
 }
 
 // A range: 12, 40, 40.
-fn note_range(t: &[u8], names: &[u8], most: u64, p: usize, tally: Tally, buffer: &mut [u8]) -> Tally
-    requires { ⌜ (tally .total + 4 < 2 ^ 64) × Marked (decode (now t)) TagNames (now names) ⌝ }
-    ensures { λ r. ⌜ log r (now (buffer .exit)) ≡ notedAll (log tally (now (buffer .entry))) (rangeFaults (decode (now (t .entry))) most p) ⌝ }
+fn note_range(
+    table: &[u8],
+    names: &[u8],
+    most: u64,
+    place: usize,
+    tally: Tally,
+    buffer: &mut [u8],
+) -> Tally
+    requires { ⌜ (tally .total + 4 < 2 ^ 64) × Marked (decode (now table)) TagNames (now names) ⌝ }
+    ensures { λ r. ⌜ log r (now (buffer .exit)) ≡ notedAll (log tally (now (buffer .entry))) (rangeFaults (decode (now (table .entry))) most place) ⌝ }
 {
-    let r = records::at(t, p);
+    let r = records::at(table, place);
     let low = r.one;
     let high = r.two;
-    let x = again_marked(12, t, Key::TagNames, p, names);
-    let f = faults::fault::single(40, r);
+    let x = again_marked(
+        codes::DUPLICATE_TAG_IDENTIFIER,
+        table,
+        Key::TagNames,
+        place,
+        names,
+    );
+    let f = faults::fault::single(codes::INVALID_TAG_RANGE, r);
     let y = when((most < low) | (most < high), f);
     let z = when(high <= low, f);
     note_three(tally, buffer, x, y, z)
 }
 
 // A default tag: 12, 44.
-fn note_default(t: &[u8], names: &[u8], p: usize, tally: Tally, buffer: &mut [u8]) -> Tally
-    requires { ⌜ (tally .total + 4 < 2 ^ 64) × Marked (decode (now t)) TagNames (now names) ⌝ }
-    ensures { λ r. ⌜ log r (now (buffer .exit)) ≡ notedAll (log tally (now (buffer .entry))) (defaultFaults (decode (now (t .entry))) p) ⌝ }
+fn note_default(table: &[u8], names: &[u8], place: usize, tally: Tally, buffer: &mut [u8]) -> Tally
+    requires { ⌜ (tally .total + 4 < 2 ^ 64) × Marked (decode (now table)) TagNames (now names) ⌝ }
+    ensures { λ r. ⌜ log r (now (buffer .exit)) ≡ notedAll (log tally (now (buffer .entry))) (defaultFaults (decode (now (table .entry))) place) ⌝ }
 {
-    let x = again_marked(12, t, Key::TagNames, p, names);
-    let y = again(44, t, Target::DefaultOrDecl, p);
-    note_three(tally, buffer, x, y, Finding::Fine)
+    let x = again_marked(
+        codes::DUPLICATE_TAG_IDENTIFIER,
+        table,
+        Key::TagNames,
+        place,
+        names,
+    );
+    let y = again(
+        codes::DUPLICATE_DEFAULT_TAG,
+        table,
+        Target::DefaultOrDecl,
+        place,
+    );
+    note_three(tally, buffer, x, y, Finding::None)
 }
 
-// A value in a range, against the range: no 43. No range stands from `after` up to p.
+// A value in a range, against the range: no 43. No range stands from `after` up to `place`.
 fn note_inner(
-    t: &[u8],
+    table: &[u8],
     names: &[u8],
     values: &[u8],
     after: usize,
-    p: usize,
+    place: usize,
     tally: Tally,
     buffer: &mut [u8],
 ) -> Tally
-    requires { ⌜ (tally .total + 4 < 2 ^ 64) × Marked (decode (now t)) TagNames (now names) × Marked (decode (now t)) TagValues (now values) × (rangeBefore (decode (now t)) p ≡ rangeBefore (decode (now t)) after) ⌝ }
-    ensures { λ r. ⌜ log r (now (buffer .exit)) ≡ notedAll (log tally (now (buffer .entry))) (innerFaults (decode (now (t .entry))) p) ⌝ }
+    requires { ⌜ (tally .total + 4 < 2 ^ 64) × Marked (decode (now table)) TagNames (now names) × Marked (decode (now table)) TagValues (now values) × (rangeBefore (decode (now table)) place ≡ rangeBefore (decode (now table)) after) ⌝ }
+    ensures { λ r. ⌜ log r (now (buffer .exit)) ≡ notedAll (log tally (now (buffer .entry))) (innerFaults (decode (now (table .entry))) place) ⌝ }
 {
-    let r = range_found(t, search::nearest(t, Target::Range, after));
-    note_value(t, names, values, lesser(r), greater(r), p, tally, buffer)
+    let r = range_found(table, search::nearest(table, Target::Range, after));
+    note_value(
+        table,
+        names,
+        values,
+        lesser(r),
+        greater(r),
+        place,
+        tally,
+        buffer,
+    )
 }
 
-// Where no range stands from `after` up to p, the same for the next place.
-pub fn after_range(t: &[u8], after: usize, p: usize) -> usize
-    requires { ⌜ (p < 1600) × (rangeBefore (decode (now t)) p ≡ rangeBefore (decode (now t)) after) ⌝ }
-    ensures { λ r. ⌜ rangeBefore (decode (now (t .entry))) (p + 1) ≡ rangeBefore (decode (now (t .entry))) r ⌝ }
+// Where no range stands from `after` up to `place`, the same for the next place.
+pub fn after_range(table: &[u8], after: usize, place: usize) -> usize
+    requires { ⌜ (place < 1600) × (rangeBefore (decode (now table)) place ≡ rangeBefore (decode (now table)) after) ⌝ }
+    ensures { λ r. ⌜ rangeBefore (decode (now (table .entry))) (place + 1) ≡ rangeBefore (decode (now (table .entry))) r ⌝ }
 {
-    if table::kind(t, p) == 41 {
-        return p + 1;
+    if table::kind(table, place) == kinds::TAG_RANGE {
+        return place + 1;
     }
     after
 }
 
-// The tag at p of the enum at d, which has n tags. The first m numbers are the bounds of its ranges; none stands from `after` up to p.
+// The tag at `place` of the enum at `decl`, which has `tags` tags. The first `ranges` numbers are the bounds of its ranges; none stands from `after` up to `place`.
 pub fn note_tag(
-    t: &[u8],
+    table: &[u8],
     names: &[u8],
     values: &[u8],
     lows: &[u64],
     highs: &[u64],
-    m: usize,
-    d: usize,
-    n: usize,
+    ranges: usize,
+    decl: usize,
+    tags: usize,
     after: usize,
-    p: usize,
+    place: usize,
     tally: Tally,
     buffer: &mut [u8],
 ) -> Tally
-    requires { ⌜ (n ≤ 1600) × (tally .total + 1604 < 2 ^ 64) × Bounds (decode (now t)) d n m (now lows) (now highs) × Marked (decode (now t)) TagNames (now names) × Marked (decode (now t)) TagValues (now values) × (rangeBefore (decode (now t)) p ≡ rangeBefore (decode (now t)) after) ⌝ }
-    ensures { λ r. ⌜ log r (now (buffer .exit)) ≡ notedAll (log tally (now (buffer .entry))) (tagFaults (decode (now (t .entry))) d n p) ⌝ }
+    requires { ⌜ (tags ≤ 1600) × (tally .total + 1604 < 2 ^ 64) × Bounds (decode (now table)) decl tags ranges (now lows) (now highs) × Marked (decode (now table)) TagNames (now names) × Marked (decode (now table)) TagValues (now values) × (rangeBefore (decode (now table)) place ≡ rangeBefore (decode (now table)) after) ⌝ }
+    ensures { λ r. ⌜ log r (now (buffer .exit)) ≡ notedAll (log tally (now (buffer .entry))) (tagFaults (decode (now (table .entry))) decl tags place) ⌝ }
 {
-    let most = widths::scalar_max(records::at(t, d).one);
-    match table::kind(t, p) {
-        40 => {
-            let kept = note_value(t, names, values, 0, most, p, tally, buffer);
-            note_held(t, lows, highs, m, d, n, p, kept, buffer)
+    let most = widths::scalar_max(records::at(table, decl).one);
+    match table::kind(table, place) {
+        kinds::TAG_VALUE => {
+            let kept = note_value(table, names, values, 0, most, place, tally, buffer);
+            note_held(table, lows, highs, ranges, decl, tags, place, kept, buffer)
         }
-        41 => note_range(t, names, most, p, tally, buffer),
-        42 => note_inner(t, names, values, after, p, tally, buffer),
-        43 => note_default(t, names, p, tally, buffer),
+        kinds::TAG_RANGE => note_range(table, names, most, place, tally, buffer),
+        kinds::INNER_VALUE => note_inner(table, names, values, after, place, tally, buffer),
+        kinds::DEFAULT_TAG => note_default(table, names, place, tally, buffer),
         _ => tally,
     }
 }

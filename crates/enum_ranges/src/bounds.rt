@@ -9,30 +9,30 @@ ghost use Rattle.rules.specs.Table.{decode};
 ghost use Rattle.enum_ranges.specs.Bounds.{one, countOf, holders, lowsOf, highsOf};
 ghost use Rattle.enum_ranges.specs.Order.{Ordered, Split};
 
-// The bounds of the ranges at the first m places of s.
-pub fn fill(t: &[u8], s: &[u16], m: usize, lows: &mut [u64], highs: &mut [u64])
-    requires { ⌜ (m ≤ length (now s)) × (m ≤ length (now lows)) × (m ≤ length (now highs)) ⌝ }
-    ensures { λ _. ⌜ (take m (now (lows .exit)) ≡ lowsOf (decode (now (t .entry))) (take m (now (s .entry)))) × (take m (now (highs .exit)) ≡ highsOf (decode (now (t .entry))) (take m (now (s .entry)))) ⌝ }
+// The bounds of the ranges at the first `count` places of `places`.
+pub fn fill(table: &[u8], places: &[u16], count: usize, lows: &mut [u64], highs: &mut [u64])
+    requires { ⌜ (count ≤ length (now places)) × (count ≤ length (now lows)) × (count ≤ length (now highs)) ⌝ }
+    ensures { λ _. ⌜ (take count (now (lows .exit)) ≡ lowsOf (decode (now (table .entry))) (take count (now (places .entry)))) × (take count (now (highs .exit)) ≡ highsOf (decode (now (table .entry))) (take count (now (places .entry)))) ⌝ }
 {
     let mut j = 0;
-    while j < m {
-        let r = records::at(t, s[j] as usize);
+    while j < count {
+        let r = records::at(table, places[j] as usize);
         lows[j] = lesser(r);
         highs[j] = greater(r);
         j += 1;
     }
 }
 
-// How many of the first n numbers of s, which ascend, are at most v: a search by halves.
-fn at_most(s: &[u64], n: usize, v: u64) -> usize
-    requires { ⌜ (n ≤ length (now s)) × Ordered leb (take n (now s)) ⌝ }
-    ensures { λ k. ⌜ (k ≤ n) × Split (λ x. leb x v) (take n (now (s .entry))) k k ⌝ }
+// How many of the first `count` numbers of `numbers`, which ascend, are at most `value`: a search by halves.
+fn at_most(numbers: &[u64], count: usize, value: u64) -> usize
+    requires { ⌜ (count ≤ length (now numbers)) × Ordered leb (take count (now numbers)) ⌝ }
+    ensures { λ k. ⌜ (k ≤ count) × Split (λ x. leb x value) (take count (now (numbers .entry))) k k ⌝ }
 {
     let mut low = 0;
-    let mut high = n;
+    let mut high = count;
     while low < high {
         let middle = low + (high - low) / 2;
-        if s[middle] <= v {
+        if numbers[middle] <= value {
             low = middle + 1;
         } else {
             high = middle;
@@ -41,31 +41,31 @@ fn at_most(s: &[u64], n: usize, v: u64) -> usize
     low
 }
 
-fn one_if(b: bool) -> usize
-    ensures { λ r. ⌜ (r ≡ one b) × (r ≤ 1) ⌝ }
+fn one_if(test: bool) -> usize
+    ensures { λ r. ⌜ (r ≡ one test) × (r ≤ 1) ⌝ }
 {
-    if b { 1 } else { 0 }
+    if test { 1 } else { 0 }
 }
 
-// How many of the first k numbers of s are at least v.
-fn at_least(s: &[u64], k: usize, v: u64) -> usize
-    requires { ⌜ k ≤ length (now s) ⌝ }
-    ensures { λ r. ⌜ (r ≡ countOf (λ x. leb v x) (take k (now (s .entry)))) × (r ≤ k) ⌝ }
+// How many of the first `end` numbers of `numbers` are at least `value`.
+fn at_least(numbers: &[u64], end: usize, value: u64) -> usize
+    requires { ⌜ end ≤ length (now numbers) ⌝ }
+    ensures { λ r. ⌜ (r ≡ countOf (λ x. leb value x) (take end (now (numbers .entry)))) × (r ≤ end) ⌝ }
 {
     let mut count = 0;
     let mut j = 0;
-    while j < k {
-        count += one_if(v <= s[j]);
+    while j < end {
+        count += one_if(value <= numbers[j]);
         j += 1;
     }
     count
 }
 
-// How many of the first m ranges hold v. Their lesser bounds ascend, so that none behind those at most v does.
-pub fn holders(lows: &[u64], highs: &[u64], m: usize, v: u64) -> usize
-    requires { ⌜ (m ≤ length (now lows)) × (m ≤ length (now highs)) × Ordered leb (take m (now lows)) ⌝ }
-    ensures { λ r. ⌜ (r ≡ holders v (take m (now (lows .entry))) (take m (now (highs .entry)))) × (r ≤ m) ⌝ }
+// How many of the first `count` ranges hold `value`. Their lesser bounds ascend, so that none behind those at most `value` does.
+pub fn holders(lows: &[u64], highs: &[u64], count: usize, value: u64) -> usize
+    requires { ⌜ (count ≤ length (now lows)) × (count ≤ length (now highs)) × Ordered leb (take count (now lows)) ⌝ }
+    ensures { λ r. ⌜ (r ≡ holders value (take count (now (lows .entry))) (take count (now (highs .entry)))) × (r ≤ count) ⌝ }
 {
-    let k = at_most(lows, m, v);
-    at_least(highs, k, v)
+    let k = at_most(lows, count, value);
+    at_least(highs, k, value)
 }

@@ -4,6 +4,7 @@ use crate::range::lesser;
 use faults::Finding;
 use repeats::when;
 use rules::Tally;
+use rules::codes;
 ghost use mathlib.Core.Path.{_≡_};
 ghost use Prim.Native.Nat.{_+_, _^_, _<_, _≤_};
 ghost use lib.ListN.{length, take};
@@ -12,30 +13,36 @@ ghost use Rattle.rules.specs.Faults.{log};
 ghost use Rattle.rules.specs.EnumDeclarations.{overlap, overlaps};
 ghost use Rattle.faults.specs.Notes.{findings, notedAll};
 
-// 41 at q where the ranges at p and q share a value.
-fn overlap(t: &[u8], p: usize, q: usize) -> Finding
-    ensures { λ r. ⌜ findings r ≡ overlap (decode (now (t .entry))) p q ⌝ }
+// 41 at `right` where the ranges at `left` and `right` share a value.
+fn overlap(table: &[u8], left: usize, right: usize) -> Finding
+    ensures { λ r. ⌜ findings r ≡ overlap (decode (now (table .entry))) left right ⌝ }
 {
-    let r = records::at(t, p);
-    let s = records::at(t, q);
+    let r = records::at(table, left);
+    let s = records::at(table, right);
     when(
         (lesser(s) <= greater(r)) & (lesser(r) <= greater(s)),
-        faults::fault::double(41, s, r),
+        faults::fault::double(codes::DUPLICATE_TAG_RANGE, s, r),
     )
 }
 
-// 41 for each two neighbours of the first m places of s.
-pub fn note_overlaps(t: &[u8], s: &[u16], m: usize, tally: Tally, buffer: &mut [u8]) -> Tally
-    requires { ⌜ (m ≤ length (now s)) × (m ≤ 1600) × (tally .total + 1601 < 2 ^ 64) ⌝ }
-    ensures { λ r. ⌜ log r (now (buffer .exit)) ≡ notedAll (log tally (now (buffer .entry))) (overlaps (decode (now (t .entry))) (take m (now (s .entry)))) ⌝ }
+// 41 for each two neighbours of the first `count` places of `places`.
+pub fn note_overlaps(
+    table: &[u8],
+    places: &[u16],
+    count: usize,
+    tally: Tally,
+    buffer: &mut [u8],
+) -> Tally
+    requires { ⌜ (count ≤ length (now places)) × (count ≤ 1600) × (tally .total + 1601 < 2 ^ 64) ⌝ }
+    ensures { λ r. ⌜ log r (now (buffer .exit)) ≡ notedAll (log tally (now (buffer .entry))) (overlaps (decode (now (table .entry))) (take count (now (places .entry)))) ⌝ }
 {
     let mut kept = tally;
     let mut j = 0;
-    while j + 1 < m {
+    while j + 1 < count {
         kept = faults::notes::note_found(
             kept,
             buffer,
-            overlap(t, s[j] as usize, s[j + 1] as usize),
+            overlap(table, places[j] as usize, places[j + 1] as usize),
         );
         j += 1;
     }

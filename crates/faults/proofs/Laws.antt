@@ -19,7 +19,7 @@ use Rattle.store.proofs.Laws.{length-written}
 use Rattle.faults.specs.Notes.{findings, none, noted, notedAll}
 use Rattle.rules.specs.declared.Tally.{Tally}
 use Rattle.faults.specs.declared.Finding.{Finding}
-use Rattle.faults.specs.declared.Finding.the-variants.{One, Fine}
+use Rattle.faults.specs.declared.Finding.the-variants.{One, None}
 use Rattle.rules.specs.declared.Fault.{Fault}
 use Rattle.table.proofs.Laws.{each-more, each-few}
 
@@ -61,7 +61,7 @@ total-of false x y n h g = g
 pub noted-total : (l : Log) (x : Finding) → notedAll l (findings x) .tally .total ≤ l .tally .total + 1
 unfolding notedAll noted
 noted-total l (One f) = le-of-eq (total-of (ltb (l .tally .kept) (length (l .buffer) / 20)) _ _ (l .tally .total + 1) refl refl)
-noted-total l Fine = omega arith
+noted-total l None = omega arith
 
 length-fault : (f : Fault) → length (faultBytes f) ≡ 20
 unfolding faultBytes bytes
@@ -153,7 +153,7 @@ total-after t b fs e = ap (λ (l : Log). l .tally .total) e ∙ noted-count _ fs
 
 pub findings-few : (x : Finding) → length (findings x) ≤ 1
 findings-few (One f) = omega arith
-findings-few Fine = omega arith
+findings-few None = omega arith
 
 -- at most k faults at each place
 pub each-total : (f : ℕ → List Fault) (k i : ℕ) (t : Tally) (b : List ℕ) {r : Tally} {c : List ℕ} → ((j : ℕ) → length (f j) ≤ k) → log r c ≡ notedAll (log t b) (each f i) → r .total ≤ t .total + k * i

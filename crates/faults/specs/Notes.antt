@@ -8,7 +8,7 @@ use Rattle.rules.specs.Faults.{faultLength, faultRoom, faultBytes, Log, log}
 use Rattle.rules.specs.declared.Fault.{Fault}
 use Rattle.rules.specs.declared.Tally.{Tally}
 use Rattle.faults.specs.declared.Finding.{Finding}
-use Rattle.faults.specs.declared.Finding.the-variants.{One, Fine}
+use Rattle.faults.specs.declared.Finding.the-variants.{One, None}
 
 -- no fault yet
 abbrev pub none : Tally
@@ -33,4 +33,4 @@ notedAll l fs = foldl noted l fs
 -- what is found at a place, as a list
 abbrev pub findings : Finding → List Fault
 findings (One f) = f ∷ []
-findings Fine = []
+findings None = []

@@ -4,18 +4,16 @@ pub mod notes;
 
 use rules::Fault;
 use rules::Tally;
+use rules::limits::FAULT_LENGTH;
 ghost use mathlib.Core.Path.{_≡_};
 ghost use Prim.Native.Nat.{_+_, _^_, _<_};
 ghost use Rattle.rules.specs.Faults.{log};
 ghost use Rattle.faults.specs.Notes.{none, tallied, noted};
 
-// The length of a fault in bytes.
-pub const FAULT_LENGTH: usize = 20;
-
 // What is found at a place: at most one fault.
 pub enum Finding {
     One(Fault),
-    Fine,
+    None,
 }
 
 // No fault yet.
@@ -26,13 +24,13 @@ pub fn no_faults() -> Tally
 }
 
 // One fault more: kept where a whole one still fits, and counted.
-fn keep(buffer: &mut [u8], kept: usize, total: usize, f: Fault) -> Tally
+fn keep(buffer: &mut [u8], kept: usize, total: usize, fault: Fault) -> Tally
     requires { ⌜ total + 1 < 2 ^ 64 ⌝ }
-    ensures { λ r. ⌜ log r (now (buffer .exit)) ≡ noted (log (tallied kept total) (now (buffer .entry))) f ⌝ }
+    ensures { λ r. ⌜ log r (now (buffer .exit)) ≡ noted (log (tallied kept total) (now (buffer .entry))) fault ⌝ }
 {
     let total = total + 1;
     if kept < buffer.len() / FAULT_LENGTH {
-        let bytes = fault::bytes_of(f);
+        let bytes = fault::bytes_of(fault);
         store::write(buffer, FAULT_LENGTH * kept, &bytes);
         Tally {
             kept: kept + 1,
@@ -44,11 +42,11 @@ fn keep(buffer: &mut [u8], kept: usize, total: usize, f: Fault) -> Tally
 }
 
 // The same, where the tally is lent and changed where it is.
-pub fn note(tally: &mut Tally, buffer: &mut [u8], f: Fault)
+pub fn note(tally: &mut Tally, buffer: &mut [u8], fault: Fault)
     requires { ⌜ now tally .total + 1 < 2 ^ 64 ⌝ }
-    ensures { λ _. ⌜ log (now (tally .exit)) (now (buffer .exit)) ≡ noted (log (now (tally .entry)) (now (buffer .entry))) f ⌝ }
+    ensures { λ _. ⌜ log (now (tally .exit)) (now (buffer .exit)) ≡ noted (log (now (tally .entry)) (now (buffer .entry))) fault ⌝ }
 {
     let kept = tally.kept;
     let total = tally.total;
-    *tally = keep(buffer, kept, total, f);
+    *tally = keep(buffer, kept, total, fault);
 }

@@ -9,22 +9,22 @@ ghost use Rattle.rules.specs.Faults.{log};
 ghost use Rattle.faults.specs.Notes.{findings, noted, notedAll};
 
 // One fault more, where the tally goes in and comes back by value.
-pub fn noted(t: Tally, buffer: &mut [u8], f: Fault) -> Tally
-    requires { ⌜ t .total + 1 < 2 ^ 64 ⌝ }
-    ensures { λ r. ⌜ log r (now (buffer .exit)) ≡ noted (log t (now (buffer .entry))) f ⌝ }
+pub fn noted(before: Tally, buffer: &mut [u8], fault: Fault) -> Tally
+    requires { ⌜ before .total + 1 < 2 ^ 64 ⌝ }
+    ensures { λ r. ⌜ log r (now (buffer .exit)) ≡ noted (log before (now (buffer .entry))) fault ⌝ }
 {
-    let mut tally = t;
-    note(&mut tally, buffer, f);
+    let mut tally = before;
+    note(&mut tally, buffer, fault);
     tally
 }
 
 // What was found at a place, noted.
-pub fn note_found(t: Tally, buffer: &mut [u8], found: Finding) -> Tally
-    requires { ⌜ t .total + 1 < 2 ^ 64 ⌝ }
-    ensures { λ r. ⌜ log r (now (buffer .exit)) ≡ notedAll (log t (now (buffer .entry))) (findings found) ⌝ }
+pub fn note_found(tally: Tally, buffer: &mut [u8], found: Finding) -> Tally
+    requires { ⌜ tally .total + 1 < 2 ^ 64 ⌝ }
+    ensures { λ r. ⌜ log r (now (buffer .exit)) ≡ notedAll (log tally (now (buffer .entry))) (findings found) ⌝ }
 {
     match found {
-        Finding::One(f) => noted(t, buffer, f),
-        Finding::Fine => t,
+        Finding::One(f) => noted(tally, buffer, f),
+        Finding::None => tally,
     }
 }

@@ -2,6 +2,7 @@
 use faults::Finding;
 use repeats::marks::Key;
 use rules::Tally;
+use rules::codes;
 ghost use mathlib.Core.Path.{_≡_};
 ghost use Prim.Native.Nat.{_+_, _^_, _<_, _≤_};
 ghost use Rattle.rules.specs.Table.{decode};
@@ -11,39 +12,45 @@ ghost use Rattle.faults.specs.Notes.{findings, notedAll};
 ghost use Rattle.repeats.specs.Marks.{Marked};
 ghost use Rattle.repeats.specs.declared.marks.Key.the-variants.{FieldNames};
 
-pub fn at_place(t: &[u8], names: &[u8], p: usize) -> Finding
-    requires { ⌜ Marked (decode (now t)) FieldNames (now names) ⌝ }
-    ensures { λ r. ⌜ findings r ≡ pass3At (decode (now (t .entry))) p ⌝ }
+pub fn at_place(table: &[u8], names: &[u8], place: usize) -> Finding
+    requires { ⌜ Marked (decode (now table)) FieldNames (now names) ⌝ }
+    ensures { λ r. ⌜ findings r ≡ pass3At (decode (now (table .entry))) place ⌝ }
 {
-    if !kinds::is_named_field(table::kind(t, p)) {
-        return Finding::Fine;
+    if !kinds::is_named_field(table::kind(table, place)) {
+        return Finding::None;
     }
-    repeats::again_marked(11, t, Key::FieldNames, p, names)
+    repeats::again_marked(
+        codes::DUPLICATE_FIELD_IDENTIFIER,
+        table,
+        Key::FieldNames,
+        place,
+        names,
+    )
 }
 
-// Notes what is found at p. Mark and kind are tested in one branch: few fields that repeat no name keep their mark.
-fn note_at(t: &[u8], names: &[u8], p: usize, tally: Tally, buffer: &mut [u8]) -> Tally
-    requires { ⌜ (tally .total + 1 < 2 ^ 64) × Marked (decode (now t)) FieldNames (now names) ⌝ }
-    ensures { λ r. ⌜ (log r (now (buffer .exit)) ≡ notedAll (log tally (now (buffer .entry))) (pass3At (decode (now (t .entry))) p)) × (r .total ≤ tally .total + 1) ⌝ }
+// Notes what is found at `place`. Mark and kind are tested in one branch: few fields that repeat no name keep their mark.
+fn note_at(table: &[u8], names: &[u8], place: usize, tally: Tally, buffer: &mut [u8]) -> Tally
+    requires { ⌜ (tally .total + 1 < 2 ^ 64) × Marked (decode (now table)) FieldNames (now names) ⌝ }
+    ensures { λ r. ⌜ (log r (now (buffer .exit)) ≡ notedAll (log tally (now (buffer .entry))) (pass3At (decode (now (table .entry))) place)) × (r .total ≤ tally .total + 1) ⌝ }
 {
-    let marked = repeats::marks::mark_at(names, p) != 0;
-    let named = kinds::is_named_field(table::kind(t, p));
+    let marked = repeats::marks::mark_at(names, place) != 0;
+    let named = kinds::is_named_field(table::kind(table, place));
     if !(marked & named) {
         return tally;
     }
-    faults::notes::note_found(tally, buffer, at_place(t, names, p))
+    faults::notes::note_found(tally, buffer, at_place(table, names, place))
 }
 
 // All faults of the pass.
-pub fn check_field_identifiers(t: &[u8], names: &[u8], buffer: &mut [u8]) -> Tally
-    requires { ⌜ Marked (decode (now t)) FieldNames (now names) ⌝ }
-    ensures { λ r. ⌜ log r (now (buffer .exit)) ≡ logged (now (buffer .entry)) (pass3 (decode (now (t .entry)))) ⌝ }
+pub fn check_field_identifiers(table: &[u8], names: &[u8], buffer: &mut [u8]) -> Tally
+    requires { ⌜ Marked (decode (now table)) FieldNames (now names) ⌝ }
+    ensures { λ r. ⌜ log r (now (buffer .exit)) ≡ logged (now (buffer .entry)) (pass3 (decode (now (table .entry)))) ⌝ }
 {
-    let n = table::count(t);
+    let n = table::count(table);
     let mut tally = faults::no_faults();
     let mut p = 0;
     while p < n {
-        tally = note_at(t, names, p, tally, buffer);
+        tally = note_at(table, names, p, tally, buffer);
         p += 1;
     }
     tally

@@ -15,7 +15,7 @@ use Rattle.rules.specs.Table.{at}
 use Rattle.rules.specs.DesugarFlags.{membersStart, isConditionOn, entriesFrom, entriesOf}
 use Rattle.rules.specs.declared.Record.{Record}
 use Rattle.table.proofs.Searches.{and-false}
-use Rattle.flag_sizes.specs.Counts.{Stamped, Counted}
+use Rattle.flag_sizes.specs.Counts.{ConditionsStamped, Counted}
 use Rattle.flag_sizes.proofs.Laws.{entries-decl, entries-end, entries-miss}
 
 -- ---- marks
@@ -29,10 +29,10 @@ pub stamping-start : (rs : List Record) (marks : List ℕ) (a : ℕ) → 4093 �
 stamping-start rs marks a h = record { long = h; left = λ x o. refl }
 
 module _ {rs : List Record} {marks : List ℕ} {a p : ℕ} (m : Stamping rs marks a p) where
-  pub stamping-decl : p < length rs → isDecl (at rs p .kind) ≡ true → Stamped rs marks a
+  pub stamping-decl : p < length rs → isDecl (at rs p .kind) ≡ true → ConditionsStamped rs marks a
   stamping-decl l i = record { long = m .long; clear = λ x o. sym (entries-decl rs x p l i) ∙ m .left x o }
 
-  pub stamping-end : length rs ≤ p → Stamped rs marks a
+  pub stamping-end : length rs ≤ p → ConditionsStamped rs marks a
   stamping-end l = record { long = m .long; clear = λ x o. sym (entries-end rs x p l) ∙ m .left x o }
 
   module _ (l : p < length rs) (i : isDecl (at rs p .kind) ≡ false) where

@@ -8,7 +8,7 @@ use Rattle.rules.specs.DesugarFlags.{membersStart, entriesFrom, entriesOf}
 use Rattle.rules.specs.declared.Record.{Record}
 
 -- among the records from a on, up to the next declaration, no condition gives a name that has another stamp than a, by its remainder
-pub record Stamped (rs : List Record) (marks : List ℕ) (a : ℕ) : Type 0 where
+pub record ConditionsStamped (rs : List Record) (marks : List ℕ) (a : ℕ) : Type 0 where
   pub long : 4093 ≤ length marks
   pub clear : (x : ℕ) → ¬ (getD marks (x % 4093) 0 ≡ a) → [] ≡ entriesFrom rs x a
 

@@ -4,27 +4,27 @@ ghost use Prim.Native.Nat.{_+_, _-_, _<_};
 ghost use Rattle.rules.specs.Table.{decode};
 ghost use Rattle.rules.specs.DesugarFlags.{membersStart, isConditionOn};
 
-// The place before q: 0 has none and stays.
-pub fn before(q: usize) -> usize
-    ensures { λ r. ⌜ r ≡ q - 1 ⌝ }
+// The place before `place`: 0 has none and stays.
+pub fn before(place: usize) -> usize
+    ensures { λ r. ⌜ r ≡ place - 1 ⌝ }
 {
-    if q == 0 { 0 } else { q - 1 }
+    if place == 0 { 0 } else { place - 1 }
 }
 
-// Whether a condition that names x stands at q.
-pub fn is_condition_on(t: &[u8], x: u16, q: usize) -> bool
-    ensures { λ b. ⌜ b ≡ isConditionOn (decode (now (t .entry))) x q ⌝ }
+// Whether a condition that names `flag` stands at `place`.
+pub fn is_condition_on(table: &[u8], flag: u16, place: usize) -> bool
+    ensures { λ b. ⌜ b ≡ isConditionOn (decode (now (table .entry))) flag place ⌝ }
 {
-    let kind = table::kind(t, q);
-    let name = table::name(t, q);
-    (kind == 11) & (name == x)
+    let kind = table::kind(table, place);
+    let name = table::name(table, place);
+    (kind == kinds::CONDITION) & (name == flag)
 }
 
-// Where the members of the declaration start that the place behind p stands in.
-pub fn next_start(t: &[u8], p: usize, a: usize) -> usize
-    requires { ⌜ (p < 1600) × (a ≡ membersStart (decode (now t)) p) ⌝ }
-    ensures { λ r. ⌜ r ≡ membersStart (decode (now (t .entry))) (p + 1) ⌝ }
+// Where the members of the declaration start that the place behind `place` stands in.
+pub fn next_start(table: &[u8], place: usize, members: usize) -> usize
+    requires { ⌜ (place < 1600) × (members ≡ membersStart (decode (now table)) place) ⌝ }
+    ensures { λ r. ⌜ r ≡ membersStart (decode (now (table .entry))) (place + 1) ⌝ }
 {
-    let is_decl = kinds::is_decl(table::kind(t, p));
-    if is_decl { p + 1 } else { a }
+    let is_decl = kinds::is_decl(table::kind(table, place));
+    if is_decl { place + 1 } else { members }
 }

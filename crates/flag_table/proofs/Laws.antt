@@ -14,7 +14,7 @@ use Rattle.rules.specs.declared.Record.{Record}
 use Rattle.table.proofs.Laws.{each-more}
 use Rattle.flag_sizes.specs.Counts.{Counted}
 use Rattle.flag_sizes.proofs.Laws.{ownFrom, sizeBelow, size-more, size-all}
-use Rattle.flag_table.specs.Appended.{Appended, Room}
+use Rattle.flag_table.specs.RecordsAppended.{RecordsAppended, RoomForRecords}
 use Rattle.flag_table.proofs.Writing.{appended-none, appended-long, room-rest, appended-then}
 
 -- what the code reads of a condition and of its field
@@ -48,7 +48,7 @@ size-rises rs p (suc n) h = go (λ z. size-rises rs p n z) (decLt n p)
 
 -- what the places below p become is written
 pub record Filled (rs : List Record) (b b′ : List ℕ) (n a p : ℕ) : Type 0 where
-  pub done : Appended b 0 (each (desugaredAt rs) p) b′ n
+  pub done : RecordsAppended b 0 (each (desugaredAt rs) p) b′ n
   pub start : a ≡ membersStart rs p
 
 pub filled-start : (rs : List Record) (b : List ℕ) → Filled rs b b 0 0 0
@@ -56,7 +56,7 @@ unfolding each membersStart
 filled-start rs b = record { done = appended-none b 0; start = refl }
 
 -- there is room for all places below p
-room-below : (rs : List Record) {b : List ℕ} (p : ℕ) → Room b 0 (desugared rs) → p ≤ length rs → Room b 0 (each (desugaredAt rs) p)
+room-below : (rs : List Record) {b : List ℕ} (p : ℕ) → RoomForRecords b 0 (desugared rs) → p ≤ length rs → RoomForRecords b 0 (each (desugaredAt rs) p)
 room-below rs p m l =
     let z = size-rises rs p (length rs) l in
     let y = size-all rs (length rs) refl in
@@ -64,7 +64,7 @@ room-below rs p m l =
     let v = m .fits in
     record { few = omega arith; fits = omega arith }
 
-module _ {rs : List Record} {b b′ : List ℕ} {n a p : ℕ} (w : Filled rs b b′ n a p) (m : Room b 0 (desugared rs)) where
+module _ {rs : List Record} {b b′ : List ℕ} {n a p : ℕ} (w : Filled rs b b′ n a p) (m : RoomForRecords b 0 (desugared rs)) where
   pub filled-long : p ≤ length rs → length b′ ≡ length b
   filled-long l = appended-long (w .done) (room-below rs p m l)
 
@@ -73,11 +73,11 @@ module _ {rs : List Record} {b b′ : List ℕ} {n a p : ℕ} (w : Filled rs b b
   filled-end e = w .done .bytes ∙ rw e
 
   module _ (l : p < length rs) where
-    room-next : Room b 0 (each (desugaredAt rs) p ++ desugaredAt rs p)
+    room-next : RoomForRecords b 0 (each (desugaredAt rs) p ++ desugaredAt rs p)
     room-next = rw (← each-more (desugaredAt rs) p) (room-below rs (p + 1) m (omega arith))
 
-    pub filled-room : Room b′ n (desugaredAt rs p)
+    pub filled-room : RoomForRecords b′ n (desugaredAt rs p)
     filled-room = room-rest (w .done) (desugaredAt rs p) room-next
 
-    pub filled-next : {b₂ : List ℕ} {n₂ a₂ : ℕ} → Appended b′ n (desugaredAt rs p) b₂ n₂ → a₂ ≡ membersStart rs (p + 1) → Filled rs b b₂ n₂ a₂ (p + 1)
+    pub filled-next : {b₂ : List ℕ} {n₂ a₂ : ℕ} → RecordsAppended b′ n (desugaredAt rs p) b₂ n₂ → a₂ ≡ membersStart rs (p + 1) → Filled rs b b₂ n₂ a₂ (p + 1)
     filled-next q f = record { done = rw (each-more (desugaredAt rs) p) (appended-then (w .done) q room-next); start = f }

@@ -8,16 +8,16 @@ ghost use Rattle.rules.specs.Bytes.{written};
 ghost use Rattle.rules.specs.Table.{decode, encode};
 ghost use Rattle.rules.specs.DesugarFlags.{membersStart, entryOf, entriesFrom, flagOf, conditionAt, entriesAt, ownEntries, desugaredAt, desugared};
 ghost use Rattle.flag_sizes.specs.Counts.{Counted};
-ghost use Rattle.flag_table.specs.Appended.{Appended, Room};
+ghost use Rattle.flag_table.specs.RecordsAppended.{RecordsAppended, RoomForRecords};
 
-// The entry of the condition at q.
-fn entry_of(t: &[u8], q: usize) -> Record
-    ensures { λ r. ⌜ r ≡ entryOf (decode (now (t .entry))) q ⌝ }
+// The entry of the condition at `place`.
+fn entry_of(table: &[u8], place: usize) -> Record
+    ensures { λ r. ⌜ r ≡ entryOf (decode (now (table .entry))) place ⌝ }
 {
-    let field = records::at(t, flag_sizes::conditions::before(q));
-    let condition = records::at(t, q);
+    let field = records::at(table, flag_sizes::conditions::before(place));
+    let condition = records::at(table, place);
     Record {
-        kind: 12,
+        kind: kinds::FLAG_ENTRY,
         marks: 0,
         name: field.name,
         second: 0,
@@ -35,7 +35,7 @@ fn flag_of(r: Record) -> Record
     ensures { λ f. ⌜ f ≡ flagOf r ⌝ }
 {
     Record {
-        kind: 32,
+        kind: kinds::FLAG,
         marks: 0,
         name: r.name,
         second: 0,
@@ -48,47 +48,47 @@ fn flag_of(r: Record) -> Record
     }
 }
 
-// Writes r at place c.
-fn append(out: &mut [u8], c: usize, r: Record) -> usize
-    requires { ⌜ Room (now out) c (r ∷ []) ⌝ }
-    ensures { λ n. ⌜ Appended (now (out .entry)) c (r ∷ []) (now (out .exit)) n ⌝ }
+// Writes r at place `count`.
+fn append(out: &mut [u8], count: usize, r: Record) -> usize
+    requires { ⌜ RoomForRecords (now out) count (r ∷ []) ⌝ }
+    ensures { λ n. ⌜ RecordsAppended (now (out .entry)) count (r ∷ []) (now (out .exit)) n ⌝ }
 {
-    store::put(out, c, r);
-    c + 1
+    store::put(out, count, r);
+    count + 1
 }
 
-// Writes the entries of the conditions that name x, from place a to the end of the declaration.
-fn write_entries(t: &[u8], x: u16, a: usize, out: &mut [u8], c: usize) -> usize
-    requires { ⌜ Room (now out) c (entriesFrom (decode (now t)) x a) ⌝ }
-    ensures { λ n. ⌜ Appended (now (out .entry)) c (entriesFrom (decode (now (t .entry))) x a) (now (out .exit)) n ⌝ }
+// Writes the entries of the conditions that name `flag`, from place `from` to the end of the declaration.
+fn write_entries(table: &[u8], flag: u16, from: usize, out: &mut [u8], count: usize) -> usize
+    requires { ⌜ RoomForRecords (now out) count (entriesFrom (decode (now table)) flag from) ⌝ }
+    ensures { λ n. ⌜ RecordsAppended (now (out .entry)) count (entriesFrom (decode (now (table .entry))) flag from) (now (out .exit)) n ⌝ }
 {
-    let end = table::count(t);
-    let mut n = c;
-    let mut p = a;
+    let end = table::count(table);
+    let mut n = count;
+    let mut p = from;
     while p < end {
         let q = p;
         p = q + 1;
-        if kinds::is_decl(table::kind(t, q)) {
+        if kinds::is_decl(table::kind(table, q)) {
             return n;
         }
-        if flag_sizes::conditions::is_condition_on(t, x, q) {
-            n = append(out, n, entry_of(t, q));
+        if flag_sizes::conditions::is_condition_on(table, flag, q) {
+            n = append(out, n, entry_of(table, q));
         }
     }
     n
 }
 
-// Writes the entries that stand one after another from place a on.
-fn write_own(t: &[u8], a: usize, out: &mut [u8], c: usize) -> usize
-    requires { ⌜ Room (now out) c (entriesAt (decode (now t)) a (length (decode (now t)) - a)) ⌝ }
-    ensures { λ n. ⌜ Appended (now (out .entry)) c (entriesAt (decode (now (t .entry))) a (length (decode (now (t .entry))) - a)) (now (out .exit)) n ⌝ }
+// Writes the entries that stand one after another from place `from` on.
+fn write_own(table: &[u8], from: usize, out: &mut [u8], count: usize) -> usize
+    requires { ⌜ RoomForRecords (now out) count (entriesAt (decode (now table)) from (length (decode (now table)) - from)) ⌝ }
+    ensures { λ n. ⌜ RecordsAppended (now (out .entry)) count (entriesAt (decode (now (table .entry))) from (length (decode (now (table .entry))) - from)) (now (out .exit)) n ⌝ }
 {
-    let end = table::count(t);
-    let mut n = c;
-    let mut p = a;
+    let end = table::count(table);
+    let mut n = count;
+    let mut p = from;
     while p < end {
-        let r = records::at(t, p);
-        if r.kind != 12 {
+        let r = records::at(table, p);
+        if r.kind != kinds::FLAG_ENTRY {
             return n;
         }
         n = append(out, n, r);
@@ -97,64 +97,78 @@ fn write_own(t: &[u8], a: usize, out: &mut [u8], c: usize) -> usize
     n
 }
 
-// Writes r and the condition at p, if one stands there.
-fn write_head(t: &[u8], p: usize, r: Record, out: &mut [u8], c: usize) -> usize
-    requires { ⌜ Room (now out) c (r ∷ conditionAt (decode (now t)) p) ⌝ }
-    ensures { λ n. ⌜ Appended (now (out .entry)) c (r ∷ conditionAt (decode (now (t .entry))) p) (now (out .exit)) n ⌝ }
+// Writes r and the condition at `place`, if one stands there.
+fn write_head(table: &[u8], place: usize, r: Record, out: &mut [u8], count: usize) -> usize
+    requires { ⌜ RoomForRecords (now out) count (r ∷ conditionAt (decode (now table)) place) ⌝ }
+    ensures { λ n. ⌜ RecordsAppended (now (out .entry)) count (r ∷ conditionAt (decode (now (table .entry))) place) (now (out .exit)) n ⌝ }
 {
-    let n = append(out, c, r);
-    let condition = records::at(t, p);
-    if condition.kind == 11 {
+    let n = append(out, count, r);
+    let condition = records::at(table, place);
+    if condition.kind == kinds::CONDITION {
         return append(out, n, condition);
     }
     n
 }
 
-// Writes r, which stands at p, as it is, with its condition and the entries that it had.
-fn write_plain(t: &[u8], p: usize, r: Record, out: &mut [u8], c: usize) -> usize
-    requires { ⌜ (p < 1600) × Room (now out) c (r ∷ conditionAt (decode (now t)) (p + 1) ++ ownEntries (decode (now t)) p) ⌝ }
-    ensures { λ n. ⌜ Appended (now (out .entry)) c (r ∷ conditionAt (decode (now (t .entry))) (p + 1) ++ ownEntries (decode (now (t .entry))) p) (now (out .exit)) n ⌝ }
+// Writes r, which stands at `place`, as it is, with its condition and the entries that it had.
+fn write_plain(table: &[u8], place: usize, r: Record, out: &mut [u8], count: usize) -> usize
+    requires { ⌜ (place < 1600) × RoomForRecords (now out) count (r ∷ conditionAt (decode (now table)) (place + 1) ++ ownEntries (decode (now table)) place) ⌝ }
+    ensures { λ n. ⌜ RecordsAppended (now (out .entry)) count (r ∷ conditionAt (decode (now (table .entry))) (place + 1) ++ ownEntries (decode (now (table .entry))) place) (now (out .exit)) n ⌝ }
 {
-    let n = write_head(t, p + 1, r, out, c);
-    write_own(t, p + (n - c), out, n)
+    let n = write_head(table, place + 1, r, out, count);
+    write_own(table, place + (n - count), out, n)
 }
 
-// Writes r, which stands at p, as a Flag with its condition and the entries made for it.
-fn write_flag(t: &[u8], p: usize, r: Record, a: usize, out: &mut [u8], c: usize) -> usize
-    requires { ⌜ (p < 1600) × Room (now out) c (flagOf r ∷ conditionAt (decode (now t)) (p + 1) ++ entriesFrom (decode (now t)) (r .name) a) ⌝ }
-    ensures { λ n. ⌜ Appended (now (out .entry)) c (flagOf r ∷ conditionAt (decode (now (t .entry))) (p + 1) ++ entriesFrom (decode (now (t .entry))) (r .name) a) (now (out .exit)) n ⌝ }
+// Writes r, which stands at `place`, as a Flag with its condition and the entries made for it.
+fn write_flag(
+    table: &[u8],
+    place: usize,
+    r: Record,
+    members: usize,
+    out: &mut [u8],
+    count: usize,
+) -> usize
+    requires { ⌜ (place < 1600) × RoomForRecords (now out) count (flagOf r ∷ conditionAt (decode (now table)) (place + 1) ++ entriesFrom (decode (now table)) (r .name) members) ⌝ }
+    ensures { λ n. ⌜ RecordsAppended (now (out .entry)) count (flagOf r ∷ conditionAt (decode (now (table .entry))) (place + 1) ++ entriesFrom (decode (now (table .entry))) (r .name) members) (now (out .exit)) n ⌝ }
 {
-    let n = write_head(t, p + 1, flag_of(r), out, c);
-    write_entries(t, r.name, a, out, n)
+    let n = write_head(table, place + 1, flag_of(r), out, count);
+    write_entries(table, r.name, members, out, n)
 }
 
-// Writes what the record at p becomes.
-fn write_at(t: &[u8], counts: &[u16], p: usize, a: usize, out: &mut [u8], c: usize) -> usize
-    requires { ⌜ Counted (decode (now t)) (now counts) (length (decode (now t))) × (length (decode (now t)) ≤ 1600) × (p < length (decode (now t))) × (a ≡ membersStart (decode (now t)) p) × Room (now out) c (desugaredAt (decode (now t)) p) ⌝ }
-    ensures { λ n. ⌜ Appended (now (out .entry)) c (desugaredAt (decode (now (t .entry))) p) (now (out .exit)) n ⌝ }
+// Writes what the record at `place` becomes.
+fn write_at(
+    table: &[u8],
+    counts: &[u16],
+    place: usize,
+    members: usize,
+    out: &mut [u8],
+    count: usize,
+) -> usize
+    requires { ⌜ Counted (decode (now table)) (now counts) (length (decode (now table))) × (length (decode (now table)) ≤ 1600) × (place < length (decode (now table))) × (members ≡ membersStart (decode (now table)) place) × RoomForRecords (now out) count (desugaredAt (decode (now table)) place) ⌝ }
+    ensures { λ n. ⌜ RecordsAppended (now (out .entry)) count (desugaredAt (decode (now (table .entry))) place) (now (out .exit)) n ⌝ }
 {
-    let r = records::at(t, p);
-    if (r.kind == 11) | (r.kind == 12) {
-        return c;
+    let r = records::at(table, place);
+    if (r.kind == kinds::CONDITION) | (r.kind == kinds::FLAG_ENTRY) {
+        return count;
     }
-    if counts[p] == 0 {
-        return write_plain(t, p, r, out, c);
+    if counts[place] == 0 {
+        return write_plain(table, place, r, out, count);
     }
-    write_flag(t, p, r, a, out, c)
+    write_flag(table, place, r, members, out, count)
 }
 
 // Writes the whole table.
-pub fn write_all(t: &[u8], counts: &[u16], out: &mut [u8])
-    requires { ⌜ (length (decode (now t)) ≤ 1600) × Counted (decode (now t)) (now counts) (length (decode (now t))) × Room (now out) 0 (desugared (decode (now t))) ⌝ }
-    ensures { λ _. ⌜ now (out .exit) ≡ written (now (out .entry)) 0 (encode (desugared (decode (now (t .entry))))) ⌝ }
+pub fn write_all(table: &[u8], counts: &[u16], out: &mut [u8])
+    requires { ⌜ (length (decode (now table)) ≤ 1600) × Counted (decode (now table)) (now counts) (length (decode (now table))) × RoomForRecords (now out) 0 (desugared (decode (now table))) ⌝ }
+    ensures { λ _. ⌜ now (out .exit) ≡ written (now (out .entry)) 0 (encode (desugared (decode (now (table .entry))))) ⌝ }
 {
-    let end = table::count(t);
+    let end = table::count(table);
     let mut n = 0;
     let mut a = 0;
     let mut p = 0;
     while p < end {
-        n = write_at(t, counts, p, a, out, n);
-        a = flag_sizes::conditions::next_start(t, p, a);
+        n = write_at(table, counts, p, a, out, n);
+        a = flag_sizes::conditions::next_start(table, p, a);
         p += 1;
     }
 }

@@ -3,6 +3,7 @@ pub mod targets;
 
 use kinds::is_constraint_or_condition;
 use kinds::is_kept;
+use rules::limits::MOST_RECORDS;
 ghost use mathlib.Core.Path.{_≡_};
 ghost use mathlib.Core.Bool.{true};
 ghost use Prim.Native.Nat.{_+_, _<_, _≤_, min};
@@ -13,13 +14,13 @@ ghost use Rattle.group_sizes.specs.GroupsFirst.{GroupsFirst};
 ghost use Rattle.group_sizes.specs.Targets.{Resolved};
 ghost use Rattle.group_sizes.specs.Sizes.{sizeHere, sizeFrom, Sized, totalSize};
 
-// How many records the record of kind k at p becomes; bound: it belongs to a group field.
-fn size_here(targets: &[u16], sizes: &[u16], k: u8, p: usize, bound: bool) -> u16
-    requires { ⌜ (p < length (now targets)) × (k ≡ 34 → getD (now targets) p 0 < length (now sizes)) ⌝ }
-    ensures { λ r. ⌜ r ≡ sizeHere (now (targets .entry)) (now (sizes .entry)) k p bound ⌝ }
+// How many records the record of kind `kind` at `place` becomes; bound: it belongs to a group field.
+fn size_here(targets: &[u16], sizes: &[u16], kind: u8, place: usize, bound: bool) -> u16
+    requires { ⌜ (place < length (now targets)) × (kind ≡ 34 → getD (now targets) place 0 < length (now sizes)) ⌝ }
+    ensures { λ r. ⌜ r ≡ sizeHere (now (targets .entry)) (now (sizes .entry)) kind place bound ⌝ }
 {
-    if k == 34 {
-        let g = targets[p] as usize;
+    if kind == kinds::GROUP_FIELD {
+        let g = targets[place] as usize;
         sizes[g]
     } else if bound {
         0
@@ -28,24 +29,24 @@ fn size_here(targets: &[u16], sizes: &[u16], k: u8, p: usize, bound: bool) -> u1
     }
 }
 
-// How many records stand behind the declaration at d once its groups are inlined, by the sizes of those groups.
-fn size_after(t: &[u8], targets: &[u16], sizes: &[u16], d: usize) -> usize
-    requires { ⌜ (length (decode (now t)) ≤ 1600) × Resolved (decode (now t)) (now targets) (length (decode (now t))) × (length (decode (now t)) ≤ length (now sizes)) × (d < length (decode (now t))) × (isDecl (at (decode (now t)) d .kind) ≡ true) ⌝ }
-    ensures { λ r. ⌜ r ≡ sizeFrom (now (targets .entry)) (now (sizes .entry)) (decode (now (t .entry))) (d + 1) ⌝ }
+// How many records stand behind the declaration at `decl` once its groups are inlined, by the sizes of those groups.
+fn size_after(table: &[u8], targets: &[u16], sizes: &[u16], decl: usize) -> usize
+    requires { ⌜ (length (decode (now table)) ≤ 1600) × Resolved (decode (now table)) (now targets) (length (decode (now table))) × (length (decode (now table)) ≤ length (now sizes)) × (decl < length (decode (now table))) × (isDecl (at (decode (now table)) decl .kind) ≡ true) ⌝ }
+    ensures { λ r. ⌜ r ≡ sizeFrom (now (targets .entry)) (now (sizes .entry)) (decode (now (table .entry))) (decl + 1) ⌝ }
 {
-    let end = table::count(t);
+    let end = table::count(table);
     let mut s: usize = 0;
     let mut after = false;
-    let mut p = d + 1;
+    let mut p = decl + 1;
     while p < end {
         let q = p;
-        let k = table::kind(t, q);
+        let k = table::kind(table, q);
         if kinds::is_decl(k) {
             return s;
         }
         let c = is_constraint_or_condition(k);
         let bound = c & after;
-        after = (k == 34) | bound;
+        after = (k == kinds::GROUP_FIELD) | bound;
         p = q + 1;
         let x = size_here(targets, sizes, k, q, bound);
         s += x as usize;
@@ -53,43 +54,52 @@ fn size_after(t: &[u8], targets: &[u16], sizes: &[u16], d: usize) -> usize
     s
 }
 
-fn saturated(s: usize) -> u16
-    ensures { λ r. ⌜ r ≡ min 1601 s ⌝ }
+// One record more than a table may have, and the size that stands for it and all above.
+const TOO_MANY: usize = MOST_RECORDS + 1;
+
+const SATURATED: u16 = TOO_MANY as u16;
+
+fn saturated(size: usize) -> u16
+    ensures { λ r. ⌜ r ≡ min 1601 size ⌝ }
 {
-    if s < 1601 { s as u16 } else { 1601 }
+    if size < TOO_MANY {
+        size as u16
+    } else {
+        SATURATED
+    }
 }
 
 // Writes the sizes of the declarations, in the order of the table: each group stands before what holds a field of it.
-pub fn measure(t: &[u8], targets: &[u16], sizes: &mut [u16])
-    requires { ⌜ (length (decode (now t)) ≤ 1600) × Resolved (decode (now t)) (now targets) (length (decode (now t))) × (length (decode (now t)) ≤ length (now sizes)) ⌝ }
-    requires { ⌜ GroupsFirst (decode (now t)) ⌝ }
-    ensures { λ _. ⌜ Sized (decode (now (t .entry))) (now (targets .entry)) (now (sizes .exit)) (length (decode (now (t .entry)))) ⌝ }
+pub fn measure(table: &[u8], targets: &[u16], sizes: &mut [u16])
+    requires { ⌜ (length (decode (now table)) ≤ 1600) × Resolved (decode (now table)) (now targets) (length (decode (now table))) × (length (decode (now table)) ≤ length (now sizes)) ⌝ }
+    requires { ⌜ GroupsFirst (decode (now table)) ⌝ }
+    ensures { λ _. ⌜ Sized (decode (now (table .entry))) (now (targets .entry)) (now (sizes .exit)) (length (decode (now (table .entry)))) ⌝ }
 {
-    let end = table::count(t);
+    let end = table::count(table);
     let mut d = 0;
     while d < end {
         let q = d;
         d = q + 1;
-        let k = table::kind(t, q);
+        let k = table::kind(table, q);
         if kinds::is_decl(k) {
-            let s = size_after(t, targets, sizes, q);
+            let s = size_after(table, targets, sizes, q);
             sizes[q] = saturated(s);
         }
     }
 }
 
 // How many records the inlined table has, if that is at most 1,600.
-pub fn total(t: &[u8], sizes: &[u16]) -> usize
-    requires { ⌜ (length (decode (now t)) ≤ 1600) × (length (decode (now t)) ≤ length (now sizes)) ⌝ }
-    ensures { λ r. ⌜ r ≡ totalSize (now (sizes .entry)) (decode (now (t .entry))) (length (decode (now (t .entry)))) ⌝ }
+pub fn total(table: &[u8], sizes: &[u16]) -> usize
+    requires { ⌜ (length (decode (now table)) ≤ 1600) × (length (decode (now table)) ≤ length (now sizes)) ⌝ }
+    ensures { λ r. ⌜ r ≡ totalSize (now (sizes .entry)) (decode (now (table .entry))) (length (decode (now (table .entry)))) ⌝ }
 {
-    let end = table::count(t);
+    let end = table::count(table);
     let mut s: usize = 0;
     let mut d = 0;
     while d < end {
         let q = d;
         d = q + 1;
-        if is_kept(table::kind(t, q)) {
+        if is_kept(table::kind(table, q)) {
             let x = sizes[q] as usize;
             s += 1 + x;
         }

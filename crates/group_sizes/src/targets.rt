@@ -1,5 +1,7 @@
 // The declarations that group fields name, by place.
 use rules::Found;
+use table::NO_PLACE;
+use table::REMAINDERS;
 ghost use mathlib.Core.List.{List};
 ghost use Prim.Native.Nat.{ℕ, _≤_};
 ghost use lib.ListN.{length};
@@ -9,13 +11,13 @@ ghost use Rattle.group_sizes.specs.GroupsFirst.{GroupsFirst};
 ghost use Rattle.group_sizes.specs.Targets.{Resolved};
 
 // The place of the first group field, or the end of the table: below it any targets are right.
-fn first_group(t: &[u8]) -> usize
-    ensures { λ r. ⌜ (r ≤ length (decode (now (t .entry)))) × ((targets : List ℕ) → length (decode (now (t .entry))) ≤ length targets → Resolved (decode (now (t .entry))) targets r) ⌝ }
+fn first_group(table: &[u8]) -> usize
+    ensures { λ r. ⌜ (r ≤ length (decode (now (table .entry)))) × ((targets : List ℕ) → length (decode (now (table .entry))) ≤ length targets → Resolved (decode (now (table .entry))) targets r) ⌝ }
 {
-    let end = table::count(t);
+    let end = table::count(table);
     let mut p = 0;
     while p < end {
-        if table::kind(t, p) == 34 {
+        if table::kind(table, p) == kinds::GROUP_FIELD {
             return p;
         }
         p += 1;
@@ -23,20 +25,20 @@ fn first_group(t: &[u8]) -> usize
     p
 }
 
-// Writes, at the place of each group field from a on, the place of the declaration that it names: one search for each.
-fn resolve_from(t: &[u8], starts: &[u16], a: usize, targets: &mut [u16])
-    requires { ⌜ (length (decode (now t)) ≤ 1600) × (a ≤ length (decode (now t))) × Resolved (decode (now t)) (now targets) a ⌝ }
-    requires { ⌜ GroupsFirst (decode (now t)) × Starts (decode (now t)) (now starts) ⌝ }
-    ensures { λ _. ⌜ Resolved (decode (now (t .entry))) (now (targets .exit)) (length (decode (now (t .entry)))) ⌝ }
+// Writes, at the place of each group field from `from` on, the place of the declaration that it names: one search for each.
+fn resolve_from(table: &[u8], starts: &[u16], from: usize, targets: &mut [u16])
+    requires { ⌜ (length (decode (now table)) ≤ 1600) × (from ≤ length (decode (now table))) × Resolved (decode (now table)) (now targets) from ⌝ }
+    requires { ⌜ GroupsFirst (decode (now table)) × Starts (decode (now table)) (now starts) ⌝ }
+    ensures { λ _. ⌜ Resolved (decode (now (table .entry))) (now (targets .exit)) (length (decode (now (table .entry)))) ⌝ }
 {
-    let end = table::count(t);
-    let mut p = a;
+    let end = table::count(table);
+    let mut p = from;
     while p < end {
         let q = p;
         p = q + 1;
-        if table::kind(t, q) == 34 {
-            let x = table::second(t, q);
-            if let Found::At(g) = declarations::decl_named(t, starts, x) {
+        if table::kind(table, q) == kinds::GROUP_FIELD {
+            let x = table::second(table, q);
+            if let Found::At(g) = declarations::decl_named(table, starts, x) {
                 targets[q] = g as u16;
             }
         }
@@ -45,17 +47,17 @@ fn resolve_from(t: &[u8], starts: &[u16], a: usize, targets: &mut [u16])
 
 // Writes, at the place of each group field, the place of the declaration that it names. A table without group fields, or of
 // few records, needs no array of starts.
-pub fn resolve(t: &[u8], targets: &mut [u16])
-    requires { ⌜ (length (decode (now t)) ≤ 1600) × (length (decode (now t)) ≤ length (now targets)) ⌝ }
-    requires { ⌜ GroupsFirst (decode (now t)) ⌝ }
-    ensures { λ _. ⌜ Resolved (decode (now (t .entry))) (now (targets .exit)) (length (decode (now (t .entry)))) ⌝ }
+pub fn resolve(table: &[u8], targets: &mut [u16])
+    requires { ⌜ (length (decode (now table)) ≤ 1600) × (length (decode (now table)) ≤ length (now targets)) ⌝ }
+    requires { ⌜ GroupsFirst (decode (now table)) ⌝ }
+    ensures { λ _. ⌜ Resolved (decode (now (table .entry))) (now (targets .exit)) (length (decode (now (table .entry)))) ⌝ }
 {
-    let a = first_group(t);
-    if (a < table::count(t)) & declarations::starts::pays(t) {
-        let mut starts = [65535u16; 4093];
-        declarations::starts::fill(t, &mut starts);
-        resolve_from(t, &starts, a, targets);
+    let a = first_group(table);
+    if (a < table::count(table)) & declarations::starts::is_large(table) {
+        let mut starts = [NO_PLACE; REMAINDERS];
+        declarations::starts::fill(table, &mut starts);
+        resolve_from(table, &starts, a, targets);
         return;
     }
-    resolve_from(t, &[], a, targets);
+    resolve_from(table, &[], a, targets);
 }

@@ -20,10 +20,10 @@ use Rattle.rules.specs.declared.Inlined.{Inlined}
 use Rattle.rules.specs.declared.Found.the-variants.{At}
 use Rattle.rules.specs.declared.Target.the-variants.{Decl}
 use Rattle.group_sizes.specs.GroupsFirst.{GroupsFirst}
-use Rattle.group_table.specs.declared.Progress.{Progress}
+use Rattle.group_table.specs.declared.ExpandProgress.{ExpandProgress}
 use Rattle.group_sizes.specs.Targets.{Resolved}
 use Rattle.group_sizes.specs.Sizes.{sizeAt, fieldsSize, sizeFrom, Sized}
-use Rattle.group_table.specs.Outputs.{Output, output, added, addedAll, Ready, Expanded}
+use Rattle.group_table.specs.Outputs.{Output, output, added, addedAll, ExpandReady, Expanded}
 use Rattle.table.proofs.Laws.{at-inj, left-suc, left-none}
 use Rattle.table.proofs.Searches.{false-true}
 use Rattle.group_sizes.proofs.targets.Resolves.{named-in, named-declares, group-before}
@@ -162,7 +162,7 @@ module _ (rs : List Record) (targets sizes : List ℕ) (t : GroupsFirst rs) (y :
 
 -- ---- the loop over the records of the declaration at d, at place p: what is written and what is left make the whole
 
-pub record Walking (rs : List Record) (targets sizes : List ℕ) (d : ℕ) (env₀ : List ℕ) (n : ℕ) (out₀ : List ℕ) (a : Progress) (env out : List ℕ) (s : Progress) (after : Bool) (p : ℕ) : Type 0 where
+pub record Walking (rs : List Record) (targets sizes : List ℕ) (d : ℕ) (env₀ : List ℕ) (n : ℕ) (out₀ : List ℕ) (a : ExpandProgress) (env out : List ℕ) (s : ExpandProgress) (after : Bool) (p : ℕ) : Type 0 where
   pub past : d < p
   pub here : nearest (holdsAt rs Decl) p ≡ At d
   pub flag : after ≡ afterGroup rs p
@@ -172,7 +172,7 @@ pub record Walking (rs : List Record) (targets sizes : List ℕ) (d : ℕ) (env�
   pub out-long : length out ≡ length out₀
   pub counted : s .count + sizeFrom targets sizes rs p ≡ a .count + getD sizes d 0
 
-module _ {rs : List Record} {targets sizes : List ℕ} {d : ℕ} {env₀ : List ℕ} {n : ℕ} {out₀ : List ℕ} {a : Progress} (y : Ready rs targets sizes d env₀ n out₀ a) where
+module _ {rs : List Record} {targets sizes : List ℕ} {d : ℕ} {env₀ : List ℕ} {n : ℕ} {out₀ : List ℕ} {a : ExpandProgress} (y : ExpandReady rs targets sizes d env₀ n out₀ a) where
   pub walk-start : Walking rs targets sizes d env₀ n out₀ a env₀ out₀ a false (d + 1)
   walk-start =
       let i = y .decl .1 in
@@ -190,7 +190,7 @@ module _ {rs : List Record} {targets sizes : List ℕ} {d : ℕ} {env₀ : List 
         counted = omega arith;
       }
 
-  module _ {env out : List ℕ} {s : Progress} {after : Bool} {p : ℕ} (w : Walking rs targets sizes d env₀ n out₀ a env out s after p) where
+  module _ {env out : List ℕ} {s : ExpandProgress} {after : Bool} {p : ℕ} (w : Walking rs targets sizes d env₀ n out₀ a env out s after p) where
     -- nothing is left
     pub walk-end : Ends rs p → Expanded rs sizes d env₀ n out₀ a env out s
     unfolding expand addedAll
@@ -209,7 +209,7 @@ module _ {rs : List Record} {targets sizes : List ℕ} {d : ℕ} {env₀ : List 
 
     module _ (l : p < length rs) (o : isDecl (at rs p .kind) ≡ false) {b : Bool} (be : b ≡ (eqb (at rs p .kind) 34 || (isConstraintOrCondition (at rs p .kind) && after))) where
       -- what the record at p becomes is written
-      walk-next : {env′ out′ : List ℕ} {s′ : Progress}
+      walk-next : {env′ out′ : List ℕ} {s′ : ExpandProgress}
           → ((k : ℕ) → d ≤ k → output s′ out′ ≡ addedAll (output s out) (inlinedField (expand rs k) rs (take n env₀) p))
           → s′ .count ≡ s .count + sizeAt targets sizes rs p → take n env′ ≡ take n env → length env′ ≡ length env → length out′ ≡ length out
           → Walking rs targets sizes d env₀ n out₀ a env′ out′ s′ b (p + 1)
@@ -282,7 +282,7 @@ module _ {rs : List Record} {targets sizes : List ℕ} {d : ℕ} {env₀ : List 
 
         -- its fields are written
         module _ {m : ℕ} {env₁ : List ℕ} (pm : (m ≡ n + length (ownConstraints rs p)) × (take m env₁ ≡ take n env ++ ownConstraints rs p)) (el : length env₁ ≡ length env) where
-          pub call-expand : {x : ℕ} → d ≡ x → (getD targets p 0 < x) × Ready rs targets sizes (getD targets p 0) env₁ m out s
+          pub call-expand : {x : ℕ} → d ≡ x → (getD targets p 0 < x) × ExpandReady rs targets sizes (getD targets p 0) env₁ m out s
           unfolding g
           call-expand e = (
             (let h = before in omega arith),
@@ -299,7 +299,7 @@ module _ {rs : List Record} {targets sizes : List ℕ} {d : ℕ} {env₀ : List 
             },
           )
 
-          pub turn-group : {env₂ out₂ : List ℕ} {s₂ : Progress} → Expanded rs sizes (getD targets p 0) env₁ m out s env₂ out₂ s₂ → length env₂ ≡ length env₁ → length out₂ ≡ length out
+          pub turn-group : {env₂ out₂ : List ℕ} {s₂ : ExpandProgress} → Expanded rs sizes (getD targets p 0) env₁ m out s env₂ out₂ s₂ → length env₂ ≡ length env₁ → length out₂ ≡ length out
               → Walking rs targets sizes d env₀ n out₀ a env₂ out₂ s₂ b (p + 1)
           unfolding g
           turn-group {env₂} {out₂} {s₂} x e f =
@@ -338,7 +338,7 @@ module _ {rs : List Record} {targets sizes : List ℕ} {d : ℕ} {env₀ : List 
           call-add = let q = size-one in let h = size-left in let e = w .out-long in let v = y .wide in omega arith
 
           -- what is written
-          pub turn-one : {out₂ : List ℕ} {s₂ : Progress} → output s₂ out₂ ≡ added (output s out) (inlinedRecord rs (take n env) (at rs p)) → length out₂ ≡ length out
+          pub turn-one : {out₂ : List ℕ} {s₂ : ExpandProgress} → output s₂ out₂ ≡ added (output s out) (inlinedRecord rs (take n env) (at rs p)) → length out₂ ≡ length out
               → Walking rs targets sizes d env₀ n out₀ a env out₂ s₂ b (p + 1)
           unfolding inlinedField addedAll added
           turn-one {out₂} {s₂} x e =

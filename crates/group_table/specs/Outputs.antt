@@ -15,29 +15,29 @@ use Rattle.rules.specs.declared.Inlined.{Inlined}
 use Rattle.rules.specs.declared.Found.the-variants.{At}
 use Rattle.rules.specs.declared.Target.the-variants.{Decl}
 use Rattle.group_sizes.specs.GroupsFirst.{GroupsFirst}
-use Rattle.group_table.specs.declared.Progress.{Progress}
+use Rattle.group_table.specs.declared.ExpandProgress.{ExpandProgress}
 use Rattle.group_table.specs.declared.Fit.{Fit}
-use Rattle.group_table.specs.declared.Fit.the-variants.{Fine, Unfit}
+use Rattle.group_table.specs.declared.Fit.the-variants.{All, Unfit}
 use Rattle.group_sizes.specs.Targets.{Resolved}
 use Rattle.group_sizes.specs.Sizes.{Sized, totalSize}
 
 -- the first record that is not fit tells its key
-unfoldable pub judged : Fit → Inlined → Fit
-judged (Unfit k) x = Unfit k
-judged Fine x = if x .fit then Fine else Unfit (fieldKey (x .made))
+unfoldable pub fitAfter : Fit → Inlined → Fit
+fitAfter (Unfit k) x = Unfit k
+fitAfter All x = if x .fit then All else Unfit (fieldKey (x .made))
 
 -- the progress, and the bytes of the buffer
 pub record Output : Type 0 where
-  pub progress : Progress
+  pub progress : ExpandProgress
   pub bytes : List ℕ
 
-abbrev pub output : Progress → List ℕ → Output
+abbrev pub output : ExpandProgress → List ℕ → Output
 output a b = record { progress = a; bytes = b }
 
 -- one record more
 unfoldable pub added : Output → Inlined → Output
 added o x =
-    output (record { count = o .progress .count + 1; fit = judged (o .progress .fit) x })
+    output (record { count = o .progress .count + 1; fit = fitAfter (o .progress .fit) x })
     (written (o .bytes) (40 * o .progress .count) (recordBytes (x .made)))
 
 unfoldable pub addedAll : Output → List Inlined → Output
@@ -45,11 +45,11 @@ addedAll o [] = o
 addedAll o (x ∷ xs) = addedAll (added o x) xs
 
 -- nothing written yet
-abbrev pub empty : Progress
-empty = record { count = 0; fit = Fine }
+abbrev pub empty : ExpandProgress
+empty = record { count = 0; fit = All }
 
 -- what the whole table needs, with its targets and sizes known
-pub record Room (rs : List Record) (targets sizes env out : List ℕ) : Type 0 where
+pub record RoomForInlined (rs : List Record) (targets sizes env out : List ℕ) : Type 0 where
   pub few : length rs ≤ 1600
   pub groups : GroupsFirst rs
   pub resolved : Resolved rs targets (length rs)
@@ -58,7 +58,7 @@ pub record Room (rs : List Record) (targets sizes env out : List ℕ) : Type 0 w
   pub wide : 40 * totalSize sizes rs (length rs) ≤ length out
 
 -- what the declaration at d needs, with n constraints on the stack; the stack has place for those of the records before it, too
-pub record Ready (rs : List Record) (targets sizes : List ℕ) (d : ℕ) (env : List ℕ) (n : ℕ) (out : List ℕ) (a : Progress) : Type 0 where
+pub record ExpandReady (rs : List Record) (targets sizes : List ℕ) (d : ℕ) (env : List ℕ) (n : ℕ) (out : List ℕ) (a : ExpandProgress) : Type 0 where
   pub few : length rs ≤ 1600
   pub groups : GroupsFirst rs
   pub resolved : Resolved rs targets (length rs)
@@ -70,7 +70,7 @@ pub record Ready (rs : List Record) (targets sizes : List ℕ) (d : ℕ) (env : 
   pub wide : 40 * (a .count + getD sizes d 0) ≤ length out
 
 -- and what it gives: the records behind it, inlined, are written; the stack below n is kept
-pub record Expanded (rs : List Record) (sizes : List ℕ) (d : ℕ) (env : List ℕ) (n : ℕ) (out : List ℕ) (a : Progress) (env′ out′ : List ℕ) (z : Progress) : Type 0 where
+pub record Expanded (rs : List Record) (sizes : List ℕ) (d : ℕ) (env : List ℕ) (n : ℕ) (out : List ℕ) (a : ExpandProgress) (env′ out′ : List ℕ) (z : ExpandProgress) : Type 0 where
   pub made : (k : ℕ) → d < k → output z out′ ≡ addedAll (output a out) (expand rs k (take n env) d)
   pub kept : take n env′ ≡ take n env
   pub counted : z .count ≡ a .count + getD sizes d 0

@@ -10,15 +10,15 @@ ghost use Rattle.rules.specs.Table.{decode};
 ghost use Rattle.rules.specs.InlineGroups.{lookup, fixedScalar, fixedEnum, inlinedRecord};
 ghost use Rattle.group_table.specs.Constraints.{constraintsFrom};
 
-// The constraint of name x that holds: of one name the innermost, then the last.
-fn lookup(t: &[u8], env: &[u16], x: u16) -> Found
-    ensures { λ r. ⌜ r ≡ lookup (decode (now (t .entry))) (now (env .entry)) x ⌝ }
+// The constraint of name `name` that holds: of one name the innermost, then the last.
+fn lookup(table: &[u8], env: &[u16], name: u16) -> Found
+    ensures { λ r. ⌜ r ≡ lookup (decode (now (table .entry))) (now (env .entry)) name ⌝ }
 {
     let n = env.len();
     let mut i = n;
     while 0 < i {
         let q = env[i - 1] as usize;
-        if table::name(t, q) == x {
+        if table::name(table, q) == name {
             return Found::At(q);
         }
         i -= 1;
@@ -26,60 +26,60 @@ fn lookup(t: &[u8], env: &[u16], x: u16) -> Found
     Found::Nothing
 }
 
-// A Scalar that the constraint c fixes; c needs a value.
-fn fixed_scalar(scalar: Record, c: Record) -> Inlined
-    ensures { λ x. ⌜ x ≡ fixedScalar scalar c ⌝ }
+// A Scalar that the constraint `constraint` fixes; `constraint` needs a value.
+fn fixed_scalar(scalar: Record, constraint: Record) -> Inlined
+    ensures { λ x. ⌜ x ≡ fixedScalar scalar constraint ⌝ }
 {
     Inlined {
         made: Record {
-            kind: 27,
+            kind: kinds::FIXED_SCALAR,
             marks: 0,
             name: 0, // a fixed field has none
             second: 0,
             third: 0,
             one: scalar.one,
-            two: c.one,
+            two: constraint.one,
             key: scalar.key,
             start: scalar.start,
             end: scalar.end,
         },
-        fit: c.marks % 2 == 1,
+        fit: constraint.marks % 2 == 1,
     }
 }
 
-// A Typedef that the constraint c fixes; c needs a tag.
-fn fixed_enum(typedef: Record, c: Record) -> Inlined
-    ensures { λ x. ⌜ x ≡ fixedEnum typedef c ⌝ }
+// A Typedef that the constraint `constraint` fixes; `constraint` needs a tag.
+fn fixed_enum(typedef: Record, constraint: Record) -> Inlined
+    ensures { λ x. ⌜ x ≡ fixedEnum typedef constraint ⌝ }
 {
     Inlined {
         made: Record {
-            kind: 28,
+            kind: kinds::FIXED_ENUM,
             marks: 0,
             name: 0,
             second: typedef.second,
-            third: c.second,
+            third: constraint.second,
             one: 0,
             two: 0,
             key: typedef.key,
             start: typedef.start,
             end: typedef.end,
         },
-        fit: !(c.second == 0),
+        fit: !(constraint.second == 0),
     }
 }
 
 // r under the constraints at the places of env.
-pub fn inlined_record(t: &[u8], env: &[u16], r: Record) -> Inlined
-    ensures { λ x. ⌜ x ≡ inlinedRecord (decode (now (t .entry))) (now (env .entry)) r ⌝ }
+pub fn inlined_record(table: &[u8], env: &[u16], r: Record) -> Inlined
+    ensures { λ x. ⌜ x ≡ inlinedRecord (decode (now (table .entry))) (now (env .entry)) r ⌝ }
 {
-    if r.kind == 31 {
-        match lookup(t, env, r.name) {
-            Found::At(q) => fixed_scalar(r, records::at(t, q)),
+    if r.kind == kinds::SCALAR {
+        match lookup(table, env, r.name) {
+            Found::At(q) => fixed_scalar(r, records::at(table, q)),
             Found::Nothing => Inlined { made: r, fit: true },
         }
-    } else if r.kind == 33 {
-        match lookup(t, env, r.name) {
-            Found::At(q) => fixed_enum(r, records::at(t, q)),
+    } else if r.kind == kinds::TYPEDEF {
+        match lookup(table, env, r.name) {
+            Found::At(q) => fixed_enum(r, records::at(table, q)),
             Found::Nothing => Inlined { made: r, fit: true },
         }
     } else {
@@ -87,22 +87,22 @@ pub fn inlined_record(t: &[u8], env: &[u16], r: Record) -> Inlined
     }
 }
 
-// Puts the places of the constraints of the field before p on the stack, which holds n. Returns how many it holds then.
-pub fn push_constraints(t: &[u8], p: usize, env: &mut [u16], n: usize) -> usize
-    requires { ⌜ (length (decode (now t)) ≤ 1600) × (n + length (constraintsFrom (decode (now t)) p) ≤ length (now env)) ⌝ }
-    ensures { λ r. ⌜ (r ≡ n + length (constraintsFrom (decode (now (t .entry))) p)) × (take r (now (env .exit)) ≡ take n (now (env .entry)) ++ constraintsFrom (decode (now (t .entry))) p) ⌝ }
+// Puts the places of the constraints of the field before `place` on the stack, which holds `count`. Returns how many it holds then.
+pub fn push_constraints(table: &[u8], place: usize, env: &mut [u16], count: usize) -> usize
+    requires { ⌜ (length (decode (now table)) ≤ 1600) × (count + length (constraintsFrom (decode (now table)) place) ≤ length (now env)) ⌝ }
+    ensures { λ r. ⌜ (r ≡ count + length (constraintsFrom (decode (now (table .entry))) place)) × (take r (now (env .exit)) ≡ take count (now (env .entry)) ++ constraintsFrom (decode (now (table .entry))) place) ⌝ }
 {
-    let end = table::count(t);
-    let mut i = p;
-    let mut m = n;
+    let end = table::count(table);
+    let mut i = place;
+    let mut m = count;
     while i < end {
         let q = i;
-        let k = table::kind(t, q);
+        let k = table::kind(table, q);
         i = q + 1;
-        if k == 10 {
+        if k == kinds::CONSTRAINT {
             env[m] = q as u16;
             m += 1;
-        } else if k != 11 {
+        } else if k != kinds::CONDITION {
             return m;
         }
     }

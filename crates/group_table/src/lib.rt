@@ -13,86 +13,90 @@ ghost use lib.ListN.{length};
 ghost use Rattle.rules.specs.Table.{decode};
 ghost use Rattle.rules.specs.InlineGroups.{inlined};
 ghost use Rattle.group_sizes.specs.Sizes.{totalSize};
-ghost use Rattle.group_table.specs.Outputs.{judged, output, added, addedAll, empty, Room, Ready, Expanded};
+ghost use Rattle.group_table.specs.Outputs.{fitAfter, output, added, addedAll, empty, RoomForInlined, ExpandReady, Expanded};
 
 // Whether every record so far is fit, or the key of the first that is not.
 pub enum Fit {
-    Fine,
+    All,
     Unfit(FieldKey),
 }
 
 // How many records are written, and whether all are fit.
-pub struct Progress {
+pub struct ExpandProgress {
     pub count: usize,
     pub fit: Fit,
 }
 
 // The first record that is not fit tells its key.
-fn judge(f: Fit, x: Inlined) -> Fit
-    ensures { λ r. ⌜ r ≡ judged f x ⌝ }
+fn fit_after(fit: Fit, next: Inlined) -> Fit
+    ensures { λ r. ⌜ r ≡ fitAfter fit next ⌝ }
 {
-    match f {
+    match fit {
         Fit::Unfit(k) => Fit::Unfit(k),
-        Fit::Fine => {
-            if x.fit {
-                Fit::Fine
+        Fit::All => {
+            if next.fit {
+                Fit::All
             } else {
-                Fit::Unfit(FieldKey(x.made.key))
+                Fit::Unfit(FieldKey(next.made.key))
             }
         }
     }
 }
 
 // Writes one record more.
-fn add(out: &mut [u8], a: Progress, x: Inlined) -> Progress
-    requires { ⌜ 40 * (a .count + 1) ≤ length (now out) ⌝ }
-    ensures { λ r. ⌜ output r (now (out .exit)) ≡ added (output a (now (out .entry))) x ⌝ }
+fn add(out: &mut [u8], progress: ExpandProgress, next: Inlined) -> ExpandProgress
+    requires { ⌜ 40 * (progress .count + 1) ≤ length (now out) ⌝ }
+    ensures { λ r. ⌜ output r (now (out .exit)) ≡ added (output progress (now (out .entry))) next ⌝ }
 {
-    let n = a.count;
-    let f = a.fit;
-    let made = x.made;
-    let fit = judge(f, x);
+    let n = progress.count;
+    let f = progress.fit;
+    let made = next.made;
+    let fit = fit_after(f, next);
     store::put(out, n, made);
-    Progress { count: n + 1, fit }
+    ExpandProgress { count: n + 1, fit }
 }
 
-// Writes what stands behind the declaration at d, under the constraints at the first n places of env. The group of a
+// Writes what stands behind the declaration at `decl`, under the constraints at the first `count` places of env. The group of a
 // field is the declaration at its place of targets; one of size 0 is passed over.
 fn expand(
-    t: &[u8],
+    table: &[u8],
     targets: &[u16],
     sizes: &[u16],
-    d: usize,
+    decl: usize,
     env: &mut [u16],
-    n: usize,
+    count: usize,
     out: &mut [u8],
-    a: Progress,
-) -> Progress
-    requires { ⌜ Ready (decode (now t)) (now targets) (now sizes) d (now env) n (now out) a ⌝ }
-    ensures { λ z. ⌜ Expanded (decode (now (t .entry))) (now (sizes .entry)) d (now (env .entry)) n (now (out .entry)) a (now (env .exit)) (now (out .exit)) z ⌝ }
+    progress: ExpandProgress,
+) -> ExpandProgress
+    requires { ⌜ ExpandReady (decode (now table)) (now targets) (now sizes) decl (now env) count (now out) progress ⌝ }
+    ensures { λ z. ⌜ Expanded (decode (now (table .entry))) (now (sizes .entry)) decl (now (env .entry)) count (now (out .entry)) progress (now (env .exit)) (now (out .exit)) z ⌝ }
 {
-    let end = table::count(t);
-    let mut s = a;
+    let end = table::count(table);
+    let mut s = progress;
     let mut after = false;
-    let mut p = d + 1;
+    let mut p = decl + 1;
     while p < end {
         let q = p;
-        let k = table::kind(t, q);
+        let k = table::kind(table, q);
         if kinds::is_decl(k) {
             return s;
         }
         let c = is_constraint_or_condition(k);
         let bound = c & after;
-        after = (k == 34) | bound;
+        after = (k == kinds::GROUP_FIELD) | bound;
         p = q + 1;
-        if k == 34 {
+        if k == kinds::GROUP_FIELD {
             let g = targets[q] as usize;
             if sizes[g] != 0 {
-                let m = push_constraints(t, p, env, n);
-                s = expand(t, targets, sizes, g, env, m, out, s);
+                let m = push_constraints(table, p, env, count);
+                s = expand(table, targets, sizes, g, env, m, out, s);
             }
         } else if !bound {
-            s = add(out, s, inlined_record(t, &env[..n], records::record(t, q)));
+            s = add(
+                out,
+                s,
+                inlined_record(table, &env[..count], records::record(table, q)),
+            );
         }
     }
     s
@@ -100,29 +104,29 @@ fn expand(
 
 // Writes the inlined table.
 pub fn write_all(
-    t: &[u8],
+    table: &[u8],
     targets: &[u16],
     sizes: &[u16],
     env: &mut [u16],
     out: &mut [u8],
-) -> Progress
-    requires { ⌜ Room (decode (now t)) (now targets) (now sizes) (now env) (now out) ⌝ }
-    requires { ⌜ totalSize (now sizes) (decode (now t)) (length (decode (now t))) ≤ 1600 ⌝ }
-    ensures { λ r. ⌜ output r (now (out .exit)) ≡ addedAll (output empty (now (out .entry))) (inlined (decode (now (t .entry)))) ⌝ }
+) -> ExpandProgress
+    requires { ⌜ RoomForInlined (decode (now table)) (now targets) (now sizes) (now env) (now out) ⌝ }
+    requires { ⌜ totalSize (now sizes) (decode (now table)) (length (decode (now table))) ≤ 1600 ⌝ }
+    ensures { λ r. ⌜ output r (now (out .exit)) ≡ addedAll (output empty (now (out .entry))) (inlined (decode (now (table .entry)))) ⌝ }
 {
-    let end = table::count(t);
-    let mut s = Progress {
+    let end = table::count(table);
+    let mut s = ExpandProgress {
         count: 0,
-        fit: Fit::Fine,
+        fit: Fit::All,
     };
     let mut d = 0;
     while d < end {
         let q = d;
         d = q + 1;
-        let r = records::record(t, q);
+        let r = records::record(table, q);
         if is_kept(r.kind) {
             let first = add(out, s, Inlined { made: r, fit: true });
-            s = expand(t, targets, sizes, q, env, 0, out, first);
+            s = expand(table, targets, sizes, q, env, 0, out, first);
         }
     }
     s

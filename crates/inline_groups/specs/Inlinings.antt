@@ -12,7 +12,7 @@ use Rattle.rules.specs.declared.Inlined.{Inlined}
 use Rattle.rules.specs.declared.Found.{Found}
 use Rattle.rules.specs.declared.Found.the-variants.{At, Nothing}
 use Rattle.group_table.specs.declared.Fit.{Fit}
-use Rattle.group_table.specs.declared.Fit.the-variants.{Fine, Unfit}
+use Rattle.group_table.specs.declared.Fit.the-variants.{All, Unfit}
 use Rattle.inline_groups.specs.declared.Inlining.{Inlining}
 use Rattle.inline_groups.specs.declared.Inlining.the-variants as inlinings
 
@@ -30,7 +30,7 @@ byUnfit xs Nothing = inlinings.Inlined (length xs)
 
 -- the answer once all is written
 unfoldable pub byFit : ℕ → Fit → Inlining
-byFit n Fine = inlinings.Inlined n
+byFit n All = inlinings.Inlined n
 byFit n (Unfit k) = inlinings.Unfit k
 
 -- the answer for the records of an inlined table and a buffer of m bytes

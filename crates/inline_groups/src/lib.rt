@@ -1,7 +1,9 @@
 // Module 11: each group field becomes the fields of its group, fixed as its constraints say.
+use group_table::ExpandProgress;
 use group_table::Fit;
-use group_table::Progress;
 use rules::FieldKey;
+use rules::limits::MOST_RECORDS;
+use rules::limits::RECORD_LENGTH;
 ghost use mathlib.Core.Path.{_≡_};
 ghost use Prim.Native.Nat.{_≤_};
 ghost use lib.ListN.{length};
@@ -19,51 +21,51 @@ pub enum Inlining {
     Inlined(usize),
 }
 
-fn answer(a: Progress) -> Inlining
-    ensures { λ r. ⌜ r ≡ byFit (a .count) (a .fit) ⌝ }
+fn answer(progress: ExpandProgress) -> Inlining
+    ensures { λ r. ⌜ r ≡ byFit (progress .count) (progress .fit) ⌝ }
 {
-    let n = a.count;
-    let f = a.fit;
+    let n = progress.count;
+    let f = progress.fit;
     match f {
-        Fit::Fine => Inlining::Inlined(n),
+        Fit::All => Inlining::Inlined(n),
         Fit::Unfit(k) => Inlining::Unfit(k),
     }
 }
 
 // Inlines the groups with arrays of the caller's: targets and sizes by place, and a stack of places of constraints.
 fn inline_with(
-    t: &[u8],
+    table: &[u8],
     targets: &mut [u16],
     sizes: &mut [u16],
     env: &mut [u16],
     out: &mut [u8],
 ) -> Inlining
-    requires { ⌜ (length (decode (now t)) ≤ 1600) × (length (decode (now t)) ≤ length (now targets)) × (length (decode (now t)) ≤ length (now sizes)) × (length (decode (now t)) ≤ length (now env)) ⌝ }
-    requires { ⌜ GroupsFirst (decode (now t)) ⌝ }
-    ensures { λ r. ⌜ (r ≡ inlining (length (now (out .entry))) (inlined (decode (now (t .entry))))) × (now (out .exit) ≡ inliningBytes (now (out .entry)) (inlined (decode (now (t .entry))))) ⌝ }
+    requires { ⌜ (length (decode (now table)) ≤ 1600) × (length (decode (now table)) ≤ length (now targets)) × (length (decode (now table)) ≤ length (now sizes)) × (length (decode (now table)) ≤ length (now env)) ⌝ }
+    requires { ⌜ GroupsFirst (decode (now table)) ⌝ }
+    ensures { λ r. ⌜ (r ≡ inlining (length (now (out .entry))) (inlined (decode (now (table .entry))))) × (now (out .exit) ≡ inliningBytes (now (out .entry)) (inlined (decode (now (table .entry))))) ⌝ }
 {
-    group_sizes::targets::resolve(t, targets);
-    group_sizes::measure(t, targets, sizes);
-    let n = group_sizes::total(t, sizes);
-    if 1600 < n {
+    group_sizes::targets::resolve(table, targets);
+    group_sizes::measure(table, targets, sizes);
+    let n = group_sizes::total(table, sizes);
+    if MOST_RECORDS < n {
         return Inlining::Swollen;
     }
-    if out.len() < 40 * n {
+    if out.len() < RECORD_LENGTH * n {
         return Inlining::BufferShort;
     }
-    let a = group_table::write_all(t, targets, sizes, env, out);
+    let a = group_table::write_all(table, targets, sizes, env, out);
     answer(a)
 }
 
 // Inlines the groups of a table in listed order into a buffer, if the inlined table fits it.
-pub fn inline_groups(t: &[u8], out: &mut [u8]) -> Inlining
-    requires { ⌜ length (decode (now t)) ≤ 1600 ⌝ }
-    requires { ⌜ GroupsFirst (decode (now t)) ⌝ }
-    ensures { λ r. ⌜ (r ≡ inlining (length (now (out .entry))) (inlined (decode (now (t .entry))))) × (now (out .exit) ≡ inliningBytes (now (out .entry)) (inlined (decode (now (t .entry))))) ⌝ }
-    ensures numbered { λ r. ⌜ inliningNumbered r ≡ inliningNumbered (inlining (length (now (out .entry))) (inlined (decode (now (t .entry))))) ⌝ }
+pub fn inline_groups(table: &[u8], out: &mut [u8]) -> Inlining
+    requires { ⌜ length (decode (now table)) ≤ 1600 ⌝ }
+    requires { ⌜ GroupsFirst (decode (now table)) ⌝ }
+    ensures { λ r. ⌜ (r ≡ inlining (length (now (out .entry))) (inlined (decode (now (table .entry))))) × (now (out .exit) ≡ inliningBytes (now (out .entry)) (inlined (decode (now (table .entry))))) ⌝ }
+    ensures numbered { λ r. ⌜ inliningNumbered r ≡ inliningNumbered (inlining (length (now (out .entry))) (inlined (decode (now (table .entry))))) ⌝ }
 {
-    let mut targets = [0u16; 1600];
-    let mut sizes = [0u16; 1600];
-    let mut env = [0u16; 1600];
-    inline_with(t, &mut targets, &mut sizes, &mut env, out)
+    let mut targets = [0u16; MOST_RECORDS];
+    let mut sizes = [0u16; MOST_RECORDS];
+    let mut env = [0u16; MOST_RECORDS];
+    inline_with(table, &mut targets, &mut sizes, &mut env, out)
 }

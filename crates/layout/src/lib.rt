@@ -6,6 +6,8 @@ use kinds::is_decl;
 use kinds::is_field;
 use kinds::is_packet_or_struct;
 use rules::Layout;
+use rules::limits::MOST_RECORDS;
+use rules::limits::RECORD_LENGTH;
 ghost use mathlib.Core.Path.{_≡_};
 ghost use Prim.Native.Nat.{_+_, _<_, _≤_};
 ghost use lib.ListN.{length};
@@ -21,77 +23,82 @@ struct Around {
     before1: u8,
 }
 
-// Whether a constraint may stand behind records of kinds o and q.
-fn constraint_stands(o: u8, q: u8) -> bool
-    ensures { λ r. ⌜ r ≡ constraintStands o q ⌝ }
+// Whether a constraint may stand behind records of kinds `before2` and `before1`.
+fn constraint_stands(before2: u8, before1: u8) -> bool
+    ensures { λ r. ⌜ r ≡ constraintStands before2 before1 ⌝ }
 {
-    is_packet_or_struct(q) | ((q == 34) | (((q == 11) & (o == 34)) | (q == 10)))
+    is_packet_or_struct(before1)
+        | ((before1 == kinds::GROUP_FIELD)
+            | (((before1 == kinds::CONDITION) & (before2 == kinds::GROUP_FIELD))
+                | (before1 == kinds::CONSTRAINT)))
 }
 
-// Whether a record of kind k may stand where the kinds around it are these.
-fn stands_well(a: Around, k: u8) -> bool
-    ensures { λ r. ⌜ r ≡ stands (a .decl) (a .before2) (a .before1) k ⌝ }
+// Whether a record of kind `kind` may stand where the kinds around it are these.
+fn may_stand(surroundings: Around, kind: u8) -> bool
+    ensures { λ r. ⌜ r ≡ stands (surroundings .decl) (surroundings .before2) (surroundings .before1) kind ⌝ }
 {
-    let q = a.before1;
-    is_decl(k)
-        | (((k == 10) & constraint_stands(a.before2, q))
-            | ((is_field(k) & holds_fields(a.decl))
-                | (((k == 11) & is_field(q))
-                    | ((((k == 40) | ((k == 41) | (k == 43))) & (a.decl == 3))
-                        | ((k == 42) & ((q == 41) | (q == 42)))))))
+    let q = surroundings.before1;
+    is_decl(kind)
+        | (((kind == kinds::CONSTRAINT) & constraint_stands(surroundings.before2, q))
+            | ((is_field(kind) & holds_fields(surroundings.decl))
+                | (((kind == kinds::CONDITION) & is_field(q))
+                    | ((kinds::is_outer_tag(kind) & (surroundings.decl == kinds::ENUM))
+                        | ((kind == kinds::INNER_VALUE)
+                            & ((q == kinds::TAG_RANGE) | (q == kinds::INNER_VALUE)))))))
 }
 
-// Whether the bytes of a record that hold nothing are zero; i is where its bytes start.
-fn spare_zero(t: &[u8], i: usize) -> bool
-    requires { ⌜ i + 40 ≤ length (now t) ⌝ }
-    ensures { λ r. ⌜ r ≡ spareZero (now (t .entry)) i ⌝ }
+// Whether the bytes of a record that hold nothing are zero; `start` is where its bytes start.
+fn spare_zero(table: &[u8], start: usize) -> bool
+    requires { ⌜ start + 40 ≤ length (now table) ⌝ }
+    ensures { λ r. ⌜ r ≡ spareZero (now (table .entry)) start ⌝ }
 {
-    (numbers::number2(t, i + 26) == 0)
-        & ((numbers::number2(t, i + 30) == 0)
-            & ((numbers::number2(t, i + 34) == 0) & (numbers::number4(t, i + 36) == 0)))
+    (numbers::number2(table, start + 26) == 0)
+        & ((numbers::number2(table, start + 30) == 0)
+            & ((numbers::number2(table, start + 34) == 0)
+                & (numbers::number4(table, start + 36) == 0)))
 }
 
-// Whether the record at p breaks neither its row nor its place.
-fn sound_at(t: &[u8], p: usize, a: Around) -> bool
-    requires { ⌜ (p < length (decode (now t))) × (a ≡ around (decode (now t)) p) ⌝ }
-    ensures { λ r. ⌜ r ≡ soundAt (now (t .entry)) p ⌝ }
+// Whether the record at `place` breaks neither its row nor its place.
+fn sound_at(table: &[u8], place: usize, surroundings: Around) -> bool
+    requires { ⌜ (place < length (decode (now table))) × (surroundings ≡ around (decode (now table)) place) ⌝ }
+    ensures { λ r. ⌜ r ≡ soundAt (now (table .entry)) place ⌝ }
 {
-    let r = records::record(t, p);
-    let i = table::base(t, p);
-    if !spare_zero(t, i) {
+    let r = records::record(table, place);
+    let i = table::base(table, place);
+    if !spare_zero(table, i) {
         return false;
     }
-    rows::keeps_row(r) & stands_well(a, r.kind)
+    rows::keeps_row(r) & may_stand(surroundings, r.kind)
 }
 
-// The kinds around the next place, behind a record of kind k.
-fn step(a: Around, k: u8) -> Around
-    ensures { λ r. ⌜ r ≡ after a k ⌝ }
+// The kinds around the next place, behind a record of kind `kind`.
+fn step(surroundings: Around, kind: u8) -> Around
+    ensures { λ r. ⌜ r ≡ after surroundings kind ⌝ }
 {
-    if is_decl(k) {
+    if is_decl(kind) {
         return Around {
-            decl: k,
-            before2: a.before1,
-            before1: k,
+            decl: kind,
+            before2: surroundings.before1,
+            before1: kind,
         };
     }
     Around {
-        decl: a.decl,
-        before2: a.before1,
-        before1: k,
+        decl: surroundings.decl,
+        before2: surroundings.before1,
+        before1: kind,
     }
 }
 
 // The rows Uneven, TooLong and Malformed, or a sound layout.
-pub fn check_layout(t: &[u8]) -> Layout
-    ensures { λ r. ⌜ r ≡ layout (now (t .entry)) ⌝ }
-    ensures numbered { λ r. ⌜ layoutNumbered r ≡ layoutNumbered (layout (now (t .entry))) ⌝ }
+pub fn check_layout(table: &[u8]) -> Layout
+    ensures { λ r. ⌜ r ≡ layout (now (table .entry)) ⌝ }
+    ensures numbered { λ r. ⌜ layoutNumbered r ≡ layoutNumbered (layout (now (table .entry))) ⌝ }
 {
-    if t.len() % 40 != 0 {
+    if table.len() % RECORD_LENGTH != 0 {
         return Layout::Uneven;
     }
-    let n = table::count(t);
-    if 1600 < n {
+    let n = table::count(table);
+    if MOST_RECORDS < n {
         return Layout::TooLong;
     }
     let mut a = Around {
@@ -101,10 +108,10 @@ pub fn check_layout(t: &[u8]) -> Layout
     };
     let mut p = 0;
     while p < n {
-        if !sound_at(t, p, a) {
+        if !sound_at(table, p, a) {
             return Layout::Malformed(p);
         }
-        a = step(a, table::kind(t, p));
+        a = step(a, table::kind(table, p));
         p += 1;
     }
     Layout::Sound

@@ -31,35 +31,35 @@ fn packed_row(kind: u8) -> u32
     ensures { λ w. ⌜ unpacked w ≡ rowOf kind ⌝ }
 {
     match kind {
-        1 => packed(1, 0, LISTED, NONE, NONE, LISTED, NONE),
-        2 => packed(2, 1, LISTED, NONE, NONE, MARKED, NONE),
-        3 => packed(3, 0, LISTED, NONE, NONE, LISTED, NONE),
-        4 => packed(4, 0, LISTED, OPT, NONE, NONE, NONE),
-        5 => packed(5, 0, LISTED, OPT, NONE, NONE, NONE),
-        6 => packed(6, 0, LISTED, NONE, NONE, NONE, NONE),
-        7 => packed(7, 0, NONE, LISTED, NONE, NONE, NONE),
-        10 => packed(10, 1, LISTED, OPT, NONE, MARKED, NONE),
-        11 => packed(11, 1, LISTED, OPT, NONE, MARKED, NONE),
-        12 => packed(12, 0, LISTED, NONE, NONE, LISTED, NONE),
-        20 => packed(20, 0, NONE, LISTED, NONE, NONE, NONE),
-        21 => packed(21, 0, NONE, NONE, NONE, LISTED, NONE),
-        22 => packed(22, 0, NONE, LISTED, NONE, LISTED, NONE),
-        23 => packed(23, 0, NONE, LISTED, NONE, LISTED, NONE),
-        24 => packed(24, 0, NONE, LISTED, NONE, LISTED, NONE),
-        25 => packed(25, 0, NONE, NONE, NONE, NONE, NONE),
-        26 => packed(26, 0, NONE, NONE, OPT, NONE, NONE),
-        27 => packed(27, 0, NONE, NONE, NONE, LISTED, LISTED),
-        28 => packed(28, 0, NONE, LISTED, LISTED, NONE, NONE),
-        29 => packed(29, 0, NONE, NONE, NONE, LISTED, NONE),
-        30 => packed(30, 3, LISTED, OPT, OPT, MARKED, MARKED),
-        31 => packed(31, 0, LISTED, NONE, NONE, LISTED, NONE),
-        32 => packed(32, 0, LISTED, NONE, NONE, NONE, NONE),
-        33 => packed(33, 0, LISTED, LISTED, NONE, NONE, NONE),
-        34 => packed(34, 0, NONE, LISTED, NONE, NONE, NONE),
-        40 => packed(40, 0, LISTED, NONE, NONE, LISTED, NONE),
-        41 => packed(41, 0, LISTED, NONE, NONE, LISTED, LISTED),
-        42 => packed(42, 0, LISTED, NONE, NONE, LISTED, NONE),
-        43 => packed(43, 0, LISTED, NONE, NONE, NONE, NONE),
+        kinds::CHECKSUM => packed(kinds::CHECKSUM, 0, LISTED, NONE, NONE, LISTED, NONE),
+        kinds::CUSTOM_FIELD => packed(kinds::CUSTOM_FIELD, 1, LISTED, NONE, NONE, MARKED, NONE),
+        kinds::ENUM => packed(kinds::ENUM, 0, LISTED, NONE, NONE, LISTED, NONE),
+        kinds::PACKET => packed(kinds::PACKET, 0, LISTED, OPT, NONE, NONE, NONE),
+        kinds::STRUCT => packed(kinds::STRUCT, 0, LISTED, OPT, NONE, NONE, NONE),
+        kinds::GROUP => packed(kinds::GROUP, 0, LISTED, NONE, NONE, NONE, NONE),
+        kinds::TEST => packed(kinds::TEST, 0, NONE, LISTED, NONE, NONE, NONE),
+        kinds::CONSTRAINT => packed(kinds::CONSTRAINT, 1, LISTED, OPT, NONE, MARKED, NONE),
+        kinds::CONDITION => packed(kinds::CONDITION, 1, LISTED, OPT, NONE, MARKED, NONE),
+        kinds::FLAG_ENTRY => packed(kinds::FLAG_ENTRY, 0, LISTED, NONE, NONE, LISTED, NONE),
+        kinds::CHECKSUM_FIELD => packed(kinds::CHECKSUM_FIELD, 0, NONE, LISTED, NONE, NONE, NONE),
+        kinds::PADDING => packed(kinds::PADDING, 0, NONE, NONE, NONE, LISTED, NONE),
+        kinds::SIZE => packed(kinds::SIZE, 0, NONE, LISTED, NONE, LISTED, NONE),
+        kinds::COUNT => packed(kinds::COUNT, 0, NONE, LISTED, NONE, LISTED, NONE),
+        kinds::ELEMENT_SIZE => packed(kinds::ELEMENT_SIZE, 0, NONE, LISTED, NONE, LISTED, NONE),
+        kinds::BODY => packed(kinds::BODY, 0, NONE, NONE, NONE, NONE, NONE),
+        kinds::PAYLOAD => packed(kinds::PAYLOAD, 0, NONE, NONE, OPT, NONE, NONE),
+        kinds::FIXED_SCALAR => packed(kinds::FIXED_SCALAR, 0, NONE, NONE, NONE, LISTED, LISTED),
+        kinds::FIXED_ENUM => packed(kinds::FIXED_ENUM, 0, NONE, LISTED, LISTED, NONE, NONE),
+        kinds::RESERVED => packed(kinds::RESERVED, 0, NONE, NONE, NONE, LISTED, NONE),
+        kinds::ARRAY => packed(kinds::ARRAY, 3, LISTED, OPT, OPT, MARKED, MARKED),
+        kinds::SCALAR => packed(kinds::SCALAR, 0, LISTED, NONE, NONE, LISTED, NONE),
+        kinds::FLAG => packed(kinds::FLAG, 0, LISTED, NONE, NONE, NONE, NONE),
+        kinds::TYPEDEF => packed(kinds::TYPEDEF, 0, LISTED, LISTED, NONE, NONE, NONE),
+        kinds::GROUP_FIELD => packed(kinds::GROUP_FIELD, 0, NONE, LISTED, NONE, NONE, NONE),
+        kinds::TAG_VALUE => packed(kinds::TAG_VALUE, 0, LISTED, NONE, NONE, LISTED, NONE),
+        kinds::TAG_RANGE => packed(kinds::TAG_RANGE, 0, LISTED, NONE, NONE, LISTED, LISTED),
+        kinds::INNER_VALUE => packed(kinds::INNER_VALUE, 0, LISTED, NONE, NONE, LISTED, NONE),
+        kinds::DEFAULT_TAG => packed(kinds::DEFAULT_TAG, 0, LISTED, NONE, NONE, NONE, NONE),
         _ => packed(0, 0, NONE, NONE, NONE, NONE, NONE),
     }
 }
@@ -80,16 +80,16 @@ fn row_of(kind: u8) -> Row
     }
 }
 
-fn name_fits(s: u8, n: u16) -> bool
-    ensures { λ r. ⌜ r ≡ nameFits s n ⌝ }
+fn name_fits(listed: u8, name: u16) -> bool
+    ensures { λ r. ⌜ r ≡ nameFits listed name ⌝ }
 {
-    (s == 2) | (((s == 1) & !(n == 0)) | ((s == 0) & (n == 0)))
+    (listed == 2) | (((listed == 1) & !(name == 0)) | ((listed == 0) & (name == 0)))
 }
 
-fn number_fits(s: u8, mark: bool, n: u64) -> bool
-    ensures { λ r. ⌜ r ≡ numberFits s mark n ⌝ }
+fn number_fits(listed: u8, mark: bool, number: u64) -> bool
+    ensures { λ r. ⌜ r ≡ numberFits listed mark number ⌝ }
 {
-    (n == 0) | ((s == 1) | ((s == 2) & mark))
+    (number == 0) | ((listed == 1) | ((listed == 2) & mark))
 }
 
 fn key_fits(r: Record) -> bool
@@ -102,22 +102,22 @@ fn array_fits(r: Record) -> bool
     ensures { λ b. ⌜ b ≡ arrayFits r ⌝ }
 {
     let width = r.marks % 2 == 1;
-    !(r.kind == 30) | ((width & (r.second == 0)) | (!width & !(r.second == 0)))
+    !(r.kind == kinds::ARRAY) | ((width & (r.second == 0)) | (!width & !(r.second == 0)))
 }
 
 // Whether a record keeps to a row.
-fn keeps(w: Row, r: Record) -> bool
-    ensures { λ b. ⌜ b ≡ keeps w r ⌝ }
+fn keeps(row: Row, r: Record) -> bool
+    ensures { λ b. ⌜ b ≡ keeps row r ⌝ }
 {
     let width = r.marks % 2 == 1;
     let count = 2 <= r.marks;
-    !((w.kind == 0) | ((w.kind == 12) | (w.kind == 32)))
-        & ((r.marks <= w.marks)
-            & (name_fits(w.name, r.name)
-                & (name_fits(w.second, r.second)
-                    & (name_fits(w.third, r.third)
-                        & (number_fits(w.one, width, r.one)
-                            & (number_fits(w.two, count, r.two)
+    !((row.kind == 0) | kinds::is_written_only(row.kind))
+        & ((r.marks <= row.marks)
+            & (name_fits(row.name, r.name)
+                & (name_fits(row.second, r.second)
+                    & (name_fits(row.third, r.third)
+                        & (number_fits(row.one, width, r.one)
+                            & (number_fits(row.two, count, r.two)
                                 & (key_fits(r) & array_fits(r))))))))
 }
 

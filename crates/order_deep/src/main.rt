@@ -1,9 +1,16 @@
 // Orders the two deepest tables. Prints of each how many records are listed, how many faults are found and
 // which name is listed first.
 use rules::Record;
+use rules::limits::MOST_RECORDS;
+use rules::limits::TABLE_LENGTH;
 ghost use mathlib.Core.Path.{_≡_};
 ghost use Prim.Native.Nat.{_<_};
 ghost use lib.ListN.{length};
+
+// The last place of the longest table, and the name of the declaration there.
+const LAST: usize = MOST_RECORDS - 1;
+
+const LAST_NAME: u16 = MOST_RECORDS as u16;
 
 // A record with these numbers, all others 0.
 fn record(kind: u8, name: u16, second: u16) -> Record {
@@ -21,61 +28,61 @@ fn record(kind: u8, name: u16, second: u16) -> Record {
     }
 }
 
-// The struct at p, whose parent is the next one.
-fn child(p: usize) -> Record
-    requires { ⌜ p < 1600 ⌝ }
+// The struct at `place`, whose parent is the next one.
+fn child(place: usize) -> Record
+    requires { ⌜ place < 1600 ⌝ }
 {
-    if p < 1599 {
-        return record(5, (p + 1) as u16, (p + 2) as u16);
+    if place < LAST {
+        return record(kinds::STRUCT, (place + 1) as u16, (place + 2) as u16);
     }
-    record(5, 1600, 0)
+    record(kinds::STRUCT, LAST_NAME, 0)
 }
 
-// The record at p: a struct at even places, behind it a field of the next one's type; the very last is Reserved.
-fn holder(p: usize) -> Record
-    requires { ⌜ p < 1600 ⌝ }
+// The record at `place`: a struct at even places, behind it a field of the next one's type; the very last is Reserved.
+fn holder(place: usize) -> Record
+    requires { ⌜ place < 1600 ⌝ }
 {
-    if p == 1599 {
-        return record(29, 0, 0);
+    if place == LAST {
+        return record(kinds::RESERVED, 0, 0);
     }
-    if p % 2 == 0 {
-        return record(5, (p + 1) as u16, 0);
+    if place % 2 == 0 {
+        return record(kinds::STRUCT, (place + 1) as u16, 0);
     }
-    record(33, 1, (p + 2) as u16)
+    record(kinds::TYPEDEF, 1, (place + 2) as u16)
 }
 
 // 1,600 structs, each the child of the next.
-fn children(t: &mut [u8])
-    requires { ⌜ length (now t) ≡ 64000 ⌝ }
+fn children(table: &mut [u8])
+    requires { ⌜ length (now table) ≡ 64000 ⌝ }
 {
     let mut p = 0;
-    while p < 1600 {
-        store::put(t, p, child(p));
+    while p < MOST_RECORDS {
+        store::put(table, p, child(p));
         p += 1;
     }
 }
 
 // 800 structs, each with a field of the next.
-fn holders(t: &mut [u8])
-    requires { ⌜ length (now t) ≡ 64000 ⌝ }
+fn holders(table: &mut [u8])
+    requires { ⌜ length (now table) ≡ 64000 ⌝ }
 {
     let mut p = 0;
-    while p < 1600 {
-        store::put(t, p, holder(p));
+    while p < MOST_RECORDS {
+        store::put(table, p, holder(p));
         p += 1;
     }
 }
 
-fn line(x: u64) {
-    io::print_decimal(1, x);
+fn line(number: u64) {
+    io::print_decimal(1, number);
     io::write_all(1, b"\n");
 }
 
 // Orders the table and prints what came of it.
-fn show(t: &[u8], buffer: &mut [u8], out: &mut [u8])
-    requires { ⌜ (length (now t) ≡ 64000) × (length (now out) ≡ 64000) ⌝ }
+fn show(table: &[u8], buffer: &mut [u8], out: &mut [u8])
+    requires { ⌜ (length (now table) ≡ 64000) × (length (now out) ≡ 64000) ⌝ }
 {
-    let r = decl_order::check_decl_identifiers(t, buffer, out);
+    let r = decl_order::check_decl_identifiers(table, buffer, out);
     line(r.records as u64);
     let tally = r.tally;
     line(tally.total as u64);
@@ -83,8 +90,8 @@ fn show(t: &[u8], buffer: &mut [u8], out: &mut [u8])
 }
 
 fn main() {
-    let mut table = [0u8; 64000];
-    let mut out = [0u8; 64000];
+    let mut table = [0u8; TABLE_LENGTH];
+    let mut out = [0u8; TABLE_LENGTH];
     let mut buffer = [0u8; 200];
     children(&mut table);
     show(&table, &mut buffer, &mut out);

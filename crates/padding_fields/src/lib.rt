@@ -2,19 +2,20 @@
 use faults::Finding;
 use rules::Found;
 use rules::Target;
+use rules::codes;
 ghost use mathlib.Core.Path.{_≡_};
 ghost use Rattle.rules.specs.Table.{decode};
 ghost use Rattle.rules.specs.PaddingFields.{notAfterArray, pass9At};
 ghost use Rattle.faults.specs.Notes.{findings};
 
-fn not_after_array(t: &[u8], p: usize, found: Found) -> Finding
-    ensures { λ r. ⌜ findings r ≡ notAfterArray (decode (now (t .entry))) p found ⌝ }
+fn not_after_array(table: &[u8], place: usize, found: Found) -> Finding
+    ensures { λ r. ⌜ findings r ≡ notAfterArray (decode (now (table .entry))) place found ⌝ }
 {
-    let fault = faults::fault::single(39, records::at(t, p));
+    let fault = faults::fault::single(codes::INVALID_PADDING_FIELD, records::at(table, place));
     match found {
         Found::At(q) => {
-            if table::kind(t, q) == 30 {
-                return Finding::Fine;
+            if table::kind(table, q) == kinds::ARRAY {
+                return Finding::None;
             }
             Finding::One(fault)
         }
@@ -22,11 +23,15 @@ fn not_after_array(t: &[u8], p: usize, found: Found) -> Finding
     }
 }
 
-pub fn at_place(t: &[u8], p: usize) -> Finding
-    ensures { λ r. ⌜ findings r ≡ pass9At (decode (now (t .entry))) p ⌝ }
+pub fn at_place(table: &[u8], place: usize) -> Finding
+    ensures { λ r. ⌜ findings r ≡ pass9At (decode (now (table .entry))) place ⌝ }
 {
-    if table::kind(t, p) != 21 {
-        return Finding::Fine;
+    if table::kind(table, place) != kinds::PADDING {
+        return Finding::None;
     }
-    not_after_array(t, p, search::nearest(t, Target::FieldOrDecl, p))
+    not_after_array(
+        table,
+        place,
+        search::nearest(table, Target::FieldOrDecl, place),
+    )
 }

@@ -26,9 +26,9 @@ use Rattle.passes.specs.Later.{Outcome, outcome, checkedNumbered, findsL
 use Rattle.passes.specs.declared.checks.Checked as passes
 use Rattle.passes.specs.declared.checks.Checked.the-variants as checked
 use Rattle.passes.proofs.checks.Laws.{lowest-later}
-use Rattle.decl_order.specs.Contract.{Ordered, Checked}
+use Rattle.decl_order.specs.Contract.{ListedAtStart, DeclIdentifiersChecked}
 use Rattle.group_sizes.specs.GroupsFirst.{GroupsFirst}
-use Rattle.decl_order.specs.declared.Outcome as order
+use Rattle.decl_order.specs.declared.OrderResult as order
 use Rattle.decl_order.proofs.Checks.{checked-total, checked-ordered}
 use Rattle.decl_order.proofs.Names.{unique-names}
 use Rattle.passes.proofs.Groups.{groups-first}
@@ -105,7 +105,7 @@ module _ (ls : List Record) (b l t : List ℕ) {x : passes.Checked} (e : outcome
 
 -- ---- the table that pass 2 lists
 
-module _ (i b out b′ out′ : List ℕ) (r : order.Outcome) (h : Checked i b out b′ out′ r) (clean : pass1 (decode i) ≡ []) where
+module _ (i b out b′ out′ : List ℕ) (r : order.OrderResult) (h : DeclIdentifiersChecked i b out b′ out′ r) (clean : pass1 (decode i) ≡ []) where
   pub faulty-order : (t : List ℕ) → 0 < r .tally .total → answered (Faulty 2 (r .tally .total)) t b′ ≡ byPasses (decode i) t b
   faulty-order t z = told b (pass2 (decode i)) (h .faults) 2 t ∙ sym (faulty-two (decode i) t b clean (omega (arith, checked-total i b out b′ out′ r h)))
 
@@ -113,7 +113,7 @@ module _ (i b out b′ out′ : List ℕ) (r : order.Outcome) (h : Checked i b o
     accepts : pass2 (decode i) ≡ []
     accepts = no-fault b (pass2 (decode i)) (h .faults) z .1
 
-    order-is : Ordered i out out′ (r .records)
+    order-is : ListedAtStart i out out′ (r .records)
     order-is = checked-ordered i b out b′ out′ r h (omega arith)
 
     pub listed-few : r .records ≤ length (decode i)

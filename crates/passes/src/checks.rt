@@ -10,10 +10,10 @@ ghost use Rattle.rules.specs.Scopes.{pass1};
 ghost use Rattle.passes.specs.Later.{outcome, later};
 
 // All faults of pass 1.
-pub fn scope_new(t: &[u8], buffer: &mut [u8]) -> Tally
-    ensures { λ r. ⌜ log r (now (buffer .exit)) ≡ logged (now (buffer .entry)) (pass1 (decode (now (t .entry)))) ⌝ }
+pub fn scope_new(table: &[u8], buffer: &mut [u8]) -> Tally
+    ensures { λ r. ⌜ log r (now (buffer .exit)) ≡ logged (now (buffer .entry)) (pass1 (decode (now (table .entry)))) ⌝ }
 {
-    run(1, t, buffer)
+    run(1, table, buffer)
 }
 
 // The answer of passes 3 to 9: the lowest that finds faults and their total, or none.
@@ -23,13 +23,13 @@ pub enum Checked {
 }
 
 // Passes 3 to 9 in order, up to the first that finds faults. Only that one writes.
-pub fn run_later(t: &[u8], buffer: &mut [u8]) -> Checked
-    requires { ⌜ length (decode (now t)) ≤ 1600 ⌝ }
-    ensures { λ r. ⌜ outcome r (now (buffer .exit)) ≡ later (decode (now (t .entry))) (now (buffer .entry)) ⌝ }
+pub fn run_later(table: &[u8], buffer: &mut [u8]) -> Checked
+    requires { ⌜ length (decode (now table)) ≤ 1600 ⌝ }
+    ensures { λ r. ⌜ outcome r (now (buffer .exit)) ≡ later (decode (now (table .entry))) (now (buffer .entry)) ⌝ }
 {
     let mut pass = 3;
     while pass < 10 {
-        let tally = run(pass, t, buffer);
+        let tally = run(pass, table, buffer);
         if 0 < tally.total {
             return Checked::Faulty(pass, tally.total);
         }

@@ -4,6 +4,7 @@ mod rewrite;
 
 use checks::Checked;
 use rules::Reply;
+use rules::limits::RECORD_LENGTH;
 ghost use mathlib.Core.Path.{_≡_};
 ghost use mathlib.Core.List.{[]};
 ghost use Prim.Native.Nat.{_*_, _≤_};
@@ -35,7 +36,7 @@ fn check_order(input: &[u8], listed: &mut [u8], table: &mut [u8], faults: &mut [
     if 0 < tally.total {
         return Reply::Faulty(2, tally.total);
     }
-    let end = 40 * outcome.records;
+    let end = RECORD_LENGTH * outcome.records;
     check_listed(&listed[..end], table, faults)
 }
 

@@ -22,17 +22,17 @@ use Rattle.rules.proofs.Reply.{the-type}
 use Rattle.rules.specs.declared.Record.{Record}
 use Rattle.rules.specs.declared.Fault.{Fault}
 use Rattle.table.proofs.Laws.{each-more, each-few}
-use Rattle.printed.specs.Appended.{Appended}
+use Rattle.printed.specs.TextAppended.{TextAppended}
 use Rattle.printed.proofs.text.Laws.{append-none, append-then, length-decimal, length-line}
 use Rattle.printed.specs.Whole.{recordsBehind}
 
 -- a fault's line without a secondary location, and with one
 module _ {b c : List ℕ} {i j : ℕ} (f : Fault) where
-  pub append-single : f .secondary ≡ 0 → Appended b i (line (decimal (f .code)) (f .start ∷ f .end ∷ [])) c j → Appended b i (faultLine f) c j
+  pub append-single : f .secondary ≡ 0 → TextAppended b i (line (decimal (f .code)) (f .start ∷ f .end ∷ [])) c j → TextAppended b i (faultLine f) c j
   unfolding faultLine
   append-single e x = rw e x
 
-  pub append-double : (f .secondary ≡ 0 → ⊥) → Appended b i (line (decimal (f .code)) (f .start ∷ f .end ∷ f .start2 ∷ f .end2 ∷ [])) c j → Appended b i (faultLine f) c j
+  pub append-double : (f .secondary ≡ 0 → ⊥) → TextAppended b i (line (decimal (f .code)) (f .start ∷ f .end ∷ f .start2 ∷ f .end2 ∷ [])) c j → TextAppended b i (faultLine f) c j
   unfolding faultLine
   append-double e x = rw (ne-eqb _ _ e) x
 
@@ -52,21 +52,21 @@ length-fault f = go (eqb (f .secondary) 0)
     go false = omega (arith, length-line (decimal (f .code)) (f .start ∷ f .end ∷ f .start2 ∷ f .end2 ∷ []), length-decimal (f .code))
 
 -- lines place by place, each of at most k bytes: none yet, one more, and all
-pub each-none : (f : ℕ → List ℕ) (b : List ℕ) (i : ℕ) → Appended b i (each f 0) b i
+pub each-none : (f : ℕ → List ℕ) (b : List ℕ) (i : ℕ) → TextAppended b i (each f 0) b i
 unfolding each
 each-none f b i = append-none b i
 
-module _ (f : ℕ → List ℕ) (k n : ℕ) (short : (p : ℕ) → length (f p) ≤ k) {b c : List ℕ} {i j : ℕ} (p : ℕ) (room : i + k * n ≤ length b) (same : length c ≡ length b) (so-far : Appended b i (each f p) c j) where
+module _ (f : ℕ → List ℕ) (k n : ℕ) (short : (p : ℕ) → length (f p) ≤ k) {b c : List ℕ} {i j : ℕ} (p : ℕ) (room : i + k * n ≤ length b) (same : length c ≡ length b) (so-far : TextAppended b i (each f p) c j) where
   pub line-fits : p < n → j + k ≤ length c
   line-fits h = omega (arith, so-far .place, each-few f k p short, mul-suc k p, mul-le-mul-left k h)
 
-  pub append-each : p < n → {s d : List ℕ} {m : ℕ} → s ≡ f p → Appended c j s d m → Appended b i (each f (p + 1)) d m
+  pub append-each : p < n → {s d : List ℕ} {m : ℕ} → s ≡ f p → TextAppended c j s d m → TextAppended b i (each f (p + 1)) d m
   append-each h {s} {d} {m} e x =
-      subst (λ (l : List ℕ). Appended b i l d m) (sym (each-more f p))
-      (append-then (each f p) (f p) (omega arith) so-far (subst (λ (l : List ℕ). Appended c j l d m) e x))
+      subst (λ (l : List ℕ). TextAppended b i l d m) (sym (each-more f p))
+      (append-then (each f p) (f p) (omega arith) so-far (subst (λ (l : List ℕ). TextAppended c j l d m) e x))
 
-  pub each-done : p ≤ n → n ≤ p → Appended b i (each f n) c j
-  each-done h g = subst (λ (q : ℕ). Appended b i (each f q) c j) (le-antisymm h g) so-far
+  pub each-done : p ≤ n → n ≤ p → TextAppended b i (each f n) c j
+  each-done h g = subst (λ (q : ℕ). TextAppended b i (each f q) c j) (le-antisymm h g) so-far
 
 -- the lines at a place
 abbrev pub recordLineAt : List ℕ → ℕ → List ℕ

@@ -2,10 +2,10 @@
 mod replies;
 mod text;
 
-use faults::FAULT_LENGTH;
 use rules::Fault;
 use rules::Record;
 use rules::Reply;
+use rules::limits::FAULT_LENGTH;
 ghost use mathlib.Core.Path.{_≡_};
 ghost use Prim.Native.Nat.{_+_, _*_, _≤_, min};
 ghost use lib.ListN.{length};
@@ -13,13 +13,13 @@ ghost use Rattle.rules.specs.Bytes.{written};
 ghost use Rattle.rules.specs.Faults.{faultAt, faultRoom};
 ghost use Rattle.rules.specs.Replies.{numbered, answered};
 ghost use Rattle.rules.specs.Printed.{recordLine, faultLine, recordLines, faultLines, detail, printed};
-ghost use Rattle.printed.specs.Appended.{Appended};
+ghost use Rattle.printed.specs.TextAppended.{TextAppended};
 ghost use Rattle.printed.specs.Whole.{Whole};
 
 // A record's line: ten numbers.
 fn append_record(text: &mut [u8], at: usize, r: Record) -> usize
     requires { ⌜ at + 210 ≤ length (now text) ⌝ }
-    ensures { λ p. ⌜ Appended (now (text .entry)) at (recordLine r) (now (text .exit)) p ⌝ }
+    ensures { λ p. ⌜ TextAppended (now (text .entry)) at (recordLine r) (now (text .exit)) p ⌝ }
 {
     let ns = [
         r.marks as u64,
@@ -36,55 +36,60 @@ fn append_record(text: &mut [u8], at: usize, r: Record) -> usize
 }
 
 // A fault's line: its code and its primary location, and the secondary one where there is one.
-fn append_fault(text: &mut [u8], at: usize, f: Fault) -> usize
+fn append_fault(text: &mut [u8], at: usize, fault: Fault) -> usize
     requires { ⌜ at + 105 ≤ length (now text) ⌝ }
-    ensures { λ r. ⌜ Appended (now (text .entry)) at (faultLine f) (now (text .exit)) r ⌝ }
+    ensures { λ r. ⌜ TextAppended (now (text .entry)) at (faultLine fault) (now (text .exit)) r ⌝ }
 {
-    if f.secondary == 0 {
-        let ns = [f.start as u64, f.end as u64];
-        return text::append_list(text, at, f.code as u64, &ns);
+    if fault.secondary == 0 {
+        let ns = [fault.start as u64, fault.end as u64];
+        return text::append_list(text, at, fault.code as u64, &ns);
     }
-    let ns = [f.start as u64, f.end as u64, f.start2 as u64, f.end2 as u64];
-    text::append_list(text, at, f.code as u64, &ns)
+    let ns = [
+        fault.start as u64,
+        fault.end as u64,
+        fault.start2 as u64,
+        fault.end2 as u64,
+    ];
+    text::append_list(text, at, fault.code as u64, &ns)
 }
 
-// The fault in the 20 bytes from i.
-fn fault_at(b: &[u8], i: usize) -> Fault
-    requires { ⌜ i + 20 ≤ length (now b) ⌝ }
-    ensures { λ r. ⌜ r ≡ faultAt (now (b .entry)) i ⌝ }
+// The fault in the 20 bytes from `from`.
+fn fault_at(faults: &[u8], from: usize) -> Fault
+    requires { ⌜ from + 20 ≤ length (now faults) ⌝ }
+    ensures { λ r. ⌜ r ≡ faultAt (now (faults .entry)) from ⌝ }
 {
     Fault {
-        code: numbers::number2(b, i),
-        secondary: numbers::number2(b, i + 2),
-        start: numbers::number4(b, i + 4),
-        end: numbers::number4(b, i + 8),
-        start2: numbers::number4(b, i + 12),
-        end2: numbers::number4(b, i + 16),
+        code: numbers::number2(faults, from),
+        secondary: numbers::number2(faults, from + 2),
+        start: numbers::number4(faults, from + 4),
+        end: numbers::number4(faults, from + 8),
+        start2: numbers::number4(faults, from + 12),
+        end2: numbers::number4(faults, from + 16),
     }
 }
 
-// The lines of the first n records of a table.
-fn append_records(text: &mut [u8], at: usize, table: &[u8], n: usize) -> usize
-    requires { ⌜ (at + 210 * n ≤ length (now text)) × (40 * n ≤ length (now table)) ⌝ }
-    ensures { λ r. ⌜ Appended (now (text .entry)) at (recordLines (now (table .entry)) n) (now (text .exit)) r ⌝ }
+// The lines of the first `count` records of a table.
+fn append_records(text: &mut [u8], at: usize, table: &[u8], count: usize) -> usize
+    requires { ⌜ (at + 210 * count ≤ length (now text)) × (40 * count ≤ length (now table)) ⌝ }
+    ensures { λ r. ⌜ TextAppended (now (text .entry)) at (recordLines (now (table .entry)) count) (now (text .exit)) r ⌝ }
 {
     let mut p = at;
     let mut i = 0;
-    while i < n {
+    while i < count {
         p = append_record(text, p, records::record(table, i));
         i += 1;
     }
     p
 }
 
-// The lines of the first n faults of a fault buffer.
-fn append_faults(text: &mut [u8], at: usize, faults: &[u8], n: usize) -> usize
-    requires { ⌜ (at + 105 * n ≤ length (now text)) × (20 * n ≤ length (now faults)) ⌝ }
-    ensures { λ r. ⌜ Appended (now (text .entry)) at (faultLines (now (faults .entry)) n) (now (text .exit)) r ⌝ }
+// The lines of the first `count` faults of a fault buffer.
+fn append_faults(text: &mut [u8], at: usize, faults: &[u8], count: usize) -> usize
+    requires { ⌜ (at + 105 * count ≤ length (now text)) × (20 * count ≤ length (now faults)) ⌝ }
+    ensures { λ r. ⌜ TextAppended (now (text .entry)) at (faultLines (now (faults .entry)) count) (now (text .exit)) r ⌝ }
 {
     let mut p = at;
     let mut i = 0;
-    while i < n {
+    while i < count {
         p = append_fault(text, p, fault_at(faults, FAULT_LENGTH * i));
         i += 1;
     }
@@ -105,7 +110,7 @@ fn kept(total: usize, faults: &[u8]) -> usize
 // What stands behind the reply's line: the faults kept, or the records.
 fn append_detail(text: &mut [u8], at: usize, reply: Reply, table: &[u8], faults: &[u8]) -> usize
     requires { ⌜ (at + 336000 ≤ length (now text)) × (length (now table) ≤ 64000) × (length (now faults) ≤ 64000) × Whole (answered reply (now table) (now faults)) ⌝ }
-    ensures { λ r. ⌜ Appended (now (text .entry)) at (detail (numbered reply) (now (table .entry)) (now (faults .entry))) (now (text .exit)) r ⌝ }
+    ensures { λ r. ⌜ TextAppended (now (text .entry)) at (detail (numbered reply) (now (table .entry)) (now (faults .entry))) (now (text .exit)) r ⌝ }
 {
     match reply {
         Reply::Faulty(pass, total) => append_faults(text, at, faults, kept(total, faults)),

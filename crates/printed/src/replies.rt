@@ -6,30 +6,30 @@ ghost use Prim.Native.Nat.{_+_, _≤_};
 ghost use lib.ListN.{length};
 ghost use Rattle.rules.specs.Replies.{numbered};
 ghost use Rattle.rules.specs.Printed.{ascii, line, replyLine};
-ghost use Rattle.printed.specs.Appended.{Appended};
+ghost use Rattle.printed.specs.TextAppended.{TextAppended};
 
 // A line of a word alone.
 fn append_word(text: &mut [u8], at: usize, word: &[u8]) -> usize
     requires { ⌜ at + length (now word) + 1 ≤ length (now text) ⌝ }
-    ensures { λ r. ⌜ Appended (now (text .entry)) at (line (now (word .entry)) []) (now (text .exit)) r ⌝ }
+    ensures { λ r. ⌜ TextAppended (now (text .entry)) at (line (now (word .entry)) []) (now (text .exit)) r ⌝ }
 {
     let ns: [u64; 0] = [];
     crate::text::append_line(text, at, word, &ns)
 }
 
 // A line of a word and a number.
-fn append_valued(text: &mut [u8], at: usize, word: &[u8], x: u64) -> usize
+fn append_valued(text: &mut [u8], at: usize, word: &[u8], number: u64) -> usize
     requires { ⌜ at + length (now word) + 22 ≤ length (now text) ⌝ }
-    ensures { λ r. ⌜ Appended (now (text .entry)) at (line (now (word .entry)) (x ∷ [])) (now (text .exit)) r ⌝ }
+    ensures { λ r. ⌜ TextAppended (now (text .entry)) at (line (now (word .entry)) (number ∷ [])) (now (text .exit)) r ⌝ }
 {
-    let ns = [x];
+    let ns = [number];
     crate::text::append_line(text, at, word, &ns)
 }
 
 // A reply without values.
 fn append_plain(text: &mut [u8], at: usize, reply: Reply) -> usize
     requires { ⌜ (at + 60 ≤ length (now text)) × (length (numbered reply .values) ≡ 0) ⌝ }
-    ensures { λ r. ⌜ Appended (now (text .entry)) at (replyLine (numbered reply)) (now (text .exit)) r ⌝ }
+    ensures { λ r. ⌜ TextAppended (now (text .entry)) at (replyLine (numbered reply)) (now (text .exit)) r ⌝ }
 {
     match reply {
         Reply::Uneven => append_word(text, at, b"Uneven"),
@@ -42,7 +42,7 @@ fn append_plain(text: &mut [u8], at: usize, reply: Reply) -> usize
 // Faulty, the only reply with two values.
 fn append_faulty(text: &mut [u8], at: usize, pass: u8, total: usize) -> usize
     requires { ⌜ at + 60 ≤ length (now text) ⌝ }
-    ensures { λ r. ⌜ Appended (now (text .entry)) at (line (ascii "Faulty") (pass ∷ total ∷ [])) (now (text .exit)) r ⌝ }
+    ensures { λ r. ⌜ TextAppended (now (text .entry)) at (line (ascii "Faulty") (pass ∷ total ∷ [])) (now (text .exit)) r ⌝ }
 {
     let ns = [pass as u64, total as u64];
     crate::text::append_line(text, at, b"Faulty", &ns)
@@ -51,7 +51,7 @@ fn append_faulty(text: &mut [u8], at: usize, pass: u8, total: usize) -> usize
 // The reply and its numbers.
 pub fn append_reply(text: &mut [u8], at: usize, reply: Reply) -> usize
     requires { ⌜ at + 60 ≤ length (now text) ⌝ }
-    ensures { λ r. ⌜ Appended (now (text .entry)) at (replyLine (numbered reply)) (now (text .exit)) r ⌝ }
+    ensures { λ r. ⌜ TextAppended (now (text .entry)) at (replyLine (numbered reply)) (now (text .exit)) r ⌝ }
 {
     match reply {
         Reply::Malformed(place) => append_valued(text, at, b"Malformed", place as u64),

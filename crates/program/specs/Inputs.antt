@@ -17,6 +17,6 @@ pub record StandsFor (i j : List ℕ) : Type 0 where
   pub long : length j ≡ shortLength (length i)
 
 -- what was read has room in the input's buffer
-abbrev pub Fits : Reading → Type 0
-Fits (End n) = n ≤ 64040
-Fits Failed = Unit {0}
+abbrev pub ReadingFits : Reading → Type 0
+ReadingFits (End n) = n ≤ 64040
+ReadingFits Failed = Unit {0}

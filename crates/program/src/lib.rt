@@ -1,8 +1,10 @@
 // The program's body: standard input to its end, the analyzer, and the printed answer in one text.
 mod input;
 
+use input::INPUT_LENGTH;
 use input::Reading;
 use libc::STDOUT_FILENO;
+use rules::limits::TABLE_LENGTH;
 ghost use mathlib.Core.Path.{_≡_};
 ghost use Prim.Native.Nat.{_≤_};
 ghost use lib.ListN.{length};
@@ -11,17 +13,19 @@ ghost use Rattle.rules.specs.Replies.{answer};
 ghost use Rattle.rules.specs.Printed.{printed, program};
 
 // Room for every length of which the reply depends on more than the remainder, and for each remainder above.
-fn input_buffer() -> [u8; 64040]
+fn input_buffer() -> [u8; INPUT_LENGTH]
     ensures { λ r. ⌜ 64040 ≡ length r ⌝ }
 {
-    [0; 64040]
+    [0; INPUT_LENGTH]
 }
 
 // Room for all that the program can print.
-fn text_buffer() -> [u8; 340000]
+const TEXT_LENGTH: usize = 340_000;
+
+fn text_buffer() -> [u8; TEXT_LENGTH]
     ensures { λ r. ⌜ 340000 ≡ length r ⌝ }
 {
-    [0; 340000]
+    [0; TEXT_LENGTH]
 }
 
 // The analyzer with these buffers, and its answer, printed at the start of the text.
@@ -38,8 +42,8 @@ pub fn answer_text(input: &[u8], text: &mut [u8]) -> usize
     requires { ⌜ 340000 ≤ length (now text) ⌝ }
     ensures { λ r. ⌜ (now (text .exit) ≡ written (now (text .entry)) 0 (program (now (input .entry)))) × (r ≡ length (program (now (input .entry)))) ⌝ }
 {
-    let mut table = [0u8; 64000];
-    let mut faults = [0u8; 64000];
+    let mut table = [0u8; TABLE_LENGTH];
+    let mut faults = [0u8; TABLE_LENGTH];
     answer_with(input, &mut table, &mut faults, text)
 }
 

@@ -9,31 +9,31 @@ ghost use lib.ListN.{length};
 ghost use Rattle.rules.specs.Table.{decode, at};
 
 // The record at a place of the table.
-pub fn record(t: &[u8], p: usize) -> Record
-    requires { ⌜ p < length (decode (now t)) ⌝ }
-    ensures { λ r. ⌜ r ≡ at (decode (now (t .entry))) p ⌝ }
+pub fn record(table: &[u8], place: usize) -> Record
+    requires { ⌜ place < length (decode (now table)) ⌝ }
+    ensures { λ r. ⌜ r ≡ at (decode (now (table .entry))) place ⌝ }
 {
-    let i = table::base(t, p);
+    let i = table::base(table, place);
     Record {
-        kind: t[i],
-        marks: t[i + 1],
-        name: number2(t, i + 2),
-        second: number2(t, i + 4),
-        third: number2(t, i + 6),
-        one: number8(t, i + 8),
-        two: number8(t, i + 16),
-        key: number2(t, i + 24),
-        start: number4(t, i + 28),
-        end: number4(t, i + 32),
+        kind: table[i],
+        marks: table[i + 1],
+        name: number2(table, i + 2),
+        second: number2(table, i + 4),
+        third: number2(table, i + 6),
+        one: number8(table, i + 8),
+        two: number8(table, i + 16),
+        key: number2(table, i + 24),
+        start: number4(table, i + 28),
+        end: number4(table, i + 32),
     }
 }
 
 // The record at any place: one of no kind past the end.
-pub fn at(t: &[u8], p: usize) -> Record
-    ensures { λ r. ⌜ r ≡ at (decode (now (t .entry))) p ⌝ }
+pub fn at(table: &[u8], place: usize) -> Record
+    ensures { λ r. ⌜ r ≡ at (decode (now (table .entry))) place ⌝ }
 {
-    if p < table::count(t) {
-        return record(t, p);
+    if place < table::count(table) {
+        return record(table, place);
     }
     Record {
         kind: 0,

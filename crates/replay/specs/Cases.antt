@@ -3,6 +3,6 @@ use Prim.Native.Nat.{ℕ, _≤_}
 use Rattle.replay.specs.declared.stored.Next.{Next}
 use Rattle.replay.specs.declared.stored.Next.the-variants.{Read, End}
 
-abbrev pub Fits : ℕ → Next → Type 0
-Fits n (Read c) = (c .input ≤ n) × (c .table ≤ 64000) × (c .faults ≤ 64000)
-Fits n End = Unit {0}
+abbrev pub CaseFits : ℕ → Next → Type 0
+CaseFits n (Read c) = (c .input ≤ n) × (c .table ≤ 64000) × (c .faults ≤ 64000)
+CaseFits n End = Unit {0}

@@ -6,6 +6,9 @@ use passes::checks::Checked;
 use rules::Layout;
 use rules::Reply;
 use rules::Tally;
+use rules::limits::MOST_RECORDS;
+use rules::limits::RECORD_LENGTH;
+use rules::limits::TABLE_LENGTH;
 use stored::Case;
 use stored::Next;
 
@@ -39,10 +42,10 @@ fn print_scope(input: &[u8], faults: &mut [u8]) {
 fn print_order(input: &[u8], faults: &mut [u8], out: &mut [u8]) {
     stored::fill(faults);
     stored::fill(out);
-    if 1600 < table::count(input) {
+    if MOST_RECORDS < table::count(input) {
         return;
     }
-    if out.len() < 64000 {
+    if out.len() < TABLE_LENGTH {
         return;
     }
     let outcome = decl_order::check_decl_identifiers(input, faults, out);
@@ -54,7 +57,7 @@ fn print_order(input: &[u8], faults: &mut [u8], out: &mut [u8]) {
 
 // How many of the faults found a buffer of this length keeps.
 fn kept(found: usize, length: usize) -> usize {
-    let room = length / faults::FAULT_LENGTH;
+    let room = length / rules::limits::FAULT_LENGTH;
     if found < room {
         return found;
     }
@@ -63,7 +66,7 @@ fn kept(found: usize, length: usize) -> usize {
 
 // The lowest of passes 3 to 9 that finds faults, or 0, and its faults.
 fn print_later(listed: &[u8], faults: &mut [u8]) {
-    if 1600 < table::count(listed) {
+    if MOST_RECORDS < table::count(listed) {
         return;
     }
     match passes::checks::run_later(listed, faults) {
@@ -85,18 +88,18 @@ fn print_later(listed: &[u8], faults: &mut [u8]) {
 // Passes 3 to 9 on the table that pass 2 lists.
 fn print_checks(input: &[u8], faults: &mut [u8], out: &mut [u8]) {
     stored::fill(faults);
-    if 1600 < table::count(input) {
+    if MOST_RECORDS < table::count(input) {
         return;
     }
-    if out.len() < 64000 {
+    if out.len() < TABLE_LENGTH {
         return;
     }
     let outcome = decl_order::check_decl_identifiers(input, faults, out);
     let n = outcome.records;
-    if 1600 < n {
+    if MOST_RECORDS < n {
         return;
     }
-    let end = 40 * n;
+    let end = RECORD_LENGTH * n;
     print_later(&out[..end], faults);
 }
 

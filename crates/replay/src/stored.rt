@@ -3,9 +3,10 @@
 // of the fault buffer) and the input.
 use libc::STDIN_FILENO;
 use libc::STDOUT_FILENO;
+use rules::limits::TABLE_LENGTH;
 ghost use Prim.Native.Nat.{_<_};
 ghost use lib.ListN.{length};
-ghost use Rattle.replay.specs.Cases.{Fits};
+ghost use Rattle.replay.specs.Cases.{CaseFits};
 
 // What a case is for, and its lengths.
 pub struct Case {
@@ -23,7 +24,7 @@ pub enum Next {
 
 // Reads the next case. A case that is cut short or too long for the buffers ends the replay, so that the output differs.
 pub fn next_case(input: &mut [u8]) -> Next
-    ensures { λ r. ⌜ Fits (length (now (input .exit))) r ⌝ }
+    ensures { λ r. ⌜ CaseFits (length (now (input .exit))) r ⌝ }
 {
     let mut head = [0u8; 16];
     let n = io::read_full(STDIN_FILENO, &mut head);
@@ -34,7 +35,7 @@ pub fn next_case(input: &mut [u8]) -> Next
     let size = numbers::number4(&head, 4) as usize;
     let table = numbers::number4(&head, 8) as usize;
     let faults = numbers::number4(&head, 12) as usize;
-    if input.len() < size || 64000 < table || 64000 < faults {
+    if input.len() < size || TABLE_LENGTH < table || TABLE_LENGTH < faults {
         return Next::End;
     }
     let m = io::read_full(STDIN_FILENO, &mut input[..size]);
@@ -49,35 +50,35 @@ pub fn next_case(input: &mut [u8]) -> Next
     })
 }
 
-fn wide(x: u8) -> u64
+fn wide(byte: u8) -> u64
     ensures { λ r. ⌜ r < 256 ⌝ }
 {
-    x as u64
+    byte as u64
 }
 
 // A digest of bytes, as the oracle makes it.
-pub fn digest(s: &[u8]) -> u64 {
+pub fn digest(bytes: &[u8]) -> u64 {
     let mut sum: u64 = 7;
     let mut i: usize = 0;
-    while i < s.len() {
-        sum = (sum * 31 + wide(s[i])) % 0x1_0000_0000;
+    while i < bytes.len() {
+        sum = (sum * 31 + wide(bytes[i])) % 0x1_0000_0000;
         i += 1;
     }
     sum
 }
 
 // Fills a buffer with 7, so that a byte written too many shows.
-pub fn fill(s: &mut [u8]) {
+pub fn fill(buffer: &mut [u8]) {
     let mut i: usize = 0;
-    while i < s.len() {
-        s[i] = 7;
+    while i < buffer.len() {
+        buffer[i] = 7;
         i += 1;
     }
 }
 
 // A number and a byte behind it.
-pub fn print(n: u64, end: u8) {
-    io::print_decimal(STDOUT_FILENO, n);
+pub fn print(number: u64, end: u8) {
+    io::print_decimal(STDOUT_FILENO, number);
     let text = [end];
     io::write_all(STDOUT_FILENO, &text);
 }

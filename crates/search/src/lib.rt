@@ -2,7 +2,6 @@
 pub mod members;
 mod targets;
 
-use kinds::is_decl;
 use rules::Found;
 use rules::Target;
 use targets::holds;
@@ -10,14 +9,14 @@ ghost use mathlib.Core.Path.{_≡_};
 ghost use Rattle.rules.specs.Table.{decode};
 ghost use Rattle.rules.specs.Places.{nearest, holdsAt, firstFrom, firstWithin};
 
-// The nearest place below p.
-pub fn nearest(t: &[u8], x: Target, p: usize) -> Found
-    ensures { λ r. ⌜ r ≡ nearest (holdsAt (decode (now (t .entry))) x) p ⌝ }
+// The nearest place below `place`.
+pub fn nearest(table: &[u8], target: Target, place: usize) -> Found
+    ensures { λ r. ⌜ r ≡ nearest (holdsAt (decode (now (table .entry))) target) place ⌝ }
 {
-    let mut i = p;
+    let mut i = place;
     while 0 < i {
         let q = i - 1;
-        if holds(t, x, q) {
+        if holds(table, target, q) {
             return Found::At(q);
         }
         i = q;
@@ -25,14 +24,14 @@ pub fn nearest(t: &[u8], x: Target, p: usize) -> Found
     Found::Nothing
 }
 
-// The first place from a on.
-pub fn first(t: &[u8], x: Target, a: usize) -> Found
-    ensures { λ r. ⌜ r ≡ firstFrom (decode (now (t .entry))) x a ⌝ }
+// The first place from `from` on.
+pub fn first(table: &[u8], target: Target, from: usize) -> Found
+    ensures { λ r. ⌜ r ≡ firstFrom (decode (now (table .entry))) target from ⌝ }
 {
-    let n = table::count(t);
-    let mut i = a;
+    let n = table::count(table);
+    let mut i = from;
     while i < n {
-        if holds(t, x, i) {
+        if holds(table, target, i) {
             return Found::At(i);
         }
         i += 1;
@@ -40,27 +39,12 @@ pub fn first(t: &[u8], x: Target, a: usize) -> Found
     Found::Nothing
 }
 
-// The declaration that p stands in. The search for a target reads whole records, this one only kinds.
-fn nearest_decl(t: &[u8], p: usize) -> Found
-    ensures { λ r. ⌜ r ≡ nearest (holdsAt (decode (now (t .entry))) Target.Decl) p ⌝ }
+// The first place of the declaration that `place` stands in, or of what follows it.
+pub fn first_within(table: &[u8], target: Target, place: usize) -> Found
+    ensures { λ r. ⌜ r ≡ firstWithin (decode (now (table .entry))) target place ⌝ }
 {
-    let mut j = p;
-    while 0 < j {
-        let q = j - 1;
-        if is_decl(table::kind(t, q)) {
-            return Found::At(q);
-        }
-        j = q;
-    }
-    Found::Nothing
-}
-
-// The first place of the declaration that p stands in, or of what follows it.
-pub fn first_within(t: &[u8], x: Target, p: usize) -> Found
-    ensures { λ r. ⌜ r ≡ firstWithin (decode (now (t .entry))) x p ⌝ }
-{
-    match nearest_decl(t, p) {
-        Found::At(d) => first(t, x, d + 1),
+    match nearest(table, Target::Decl, place) {
+        Found::At(d) => first(table, target, d + 1),
         Found::Nothing => Found::Nothing,
     }
 }

@@ -4,31 +4,34 @@ ghost use mathlib.Core.Path.{_≡_};
 ghost use Rattle.rules.specs.Table.{decode, at};
 ghost use Rattle.rules.specs.Places.{holds};
 
-// Whether the record at p is what the search looks for. Only what the search needs of the record is read.
-pub fn holds(t: &[u8], x: Target, p: usize) -> bool
-    ensures { λ b. ⌜ b ≡ holds x (at (decode (now (t .entry))) p) ⌝ }
+// Whether the record at `place` is what the search looks for. Only what the search needs of the record is read.
+pub fn holds(table: &[u8], target: Target, place: usize) -> bool
+    ensures { λ b. ⌜ b ≡ holds target (at (decode (now (table .entry))) place) ⌝ }
 {
-    let k = table::kind(t, p);
-    let decl = (1 <= k) & (k <= 7);
-    let named = (30 <= k) & (k <= 33);
-    match x {
+    let k = table::kind(table, place);
+    let decl = kinds::is_decl(k);
+    let named = kinds::is_named_field(k);
+    match target {
         Target::Decl => decl,
-        Target::DeclNamed(n) => ((1 <= k) & (k <= 6)) & (table::name(t, p) == n),
-        Target::FieldOrDecl => decl | ((20 <= k) & (k <= 34)),
-        Target::NameOrDecl(n) => decl | (named & (table::name(t, p) == n)),
-        Target::SizeOrDecl(n) => decl | (((22 <= k) & (k <= 23)) & (table::second(t, p) == n)),
-        Target::ElementSizeOrDecl(n) => decl | ((k == 24) & (table::second(t, p) == n)),
+        Target::DeclNamed(n) => kinds::is_named_decl(k) & (table::name(table, place) == n),
+        Target::FieldOrDecl => decl | kinds::is_field(k),
+        Target::NameOrDecl(n) => decl | (named & (table::name(table, place) == n)),
+        Target::SizeOrDecl(n) => decl
+            | (kinds::is_size_or_count(k) & (table::second(table, place) == n)),
+        Target::ElementSizeOrDecl(n) => decl
+            | ((k == kinds::ELEMENT_SIZE) & (table::second(table, place) == n)),
         Target::SizedOrDecl(n) => {
-            let sized = ((k == 26) & (n == 1)) | ((k == 25) & (n == 2));
-            decl | ((named & (table::name(t, p) == n)) | sized)
+            let sized = ((k == kinds::PAYLOAD) & (n == table::PAYLOAD_NAME))
+                | ((k == kinds::BODY) & (n == table::BODY_NAME));
+            decl | ((named & (table::name(table, place) == n)) | sized)
         }
-        Target::PayloadOrDecl => decl | ((25 <= k) & (k <= 26)),
-        Target::TagOrDecl(n) => decl | (((40 <= k) & (k <= 43)) & (table::name(t, p) == n)),
+        Target::PayloadOrDecl => decl | kinds::is_payload(k),
+        Target::TagOrDecl(n) => decl | (kinds::is_tag(k) & (table::name(table, place) == n)),
         Target::OuterTagOrDecl(n) => {
-            decl | (((k == 40) | ((k == 41) | (k == 43))) & (table::name(t, p) == n))
+            decl | (kinds::is_outer_tag(k) & (table::name(table, place) == n))
         }
-        Target::ValueOrDecl(v) => decl | (((k == 40) | (k == 42)) & (table::one(t, p) == v)),
-        Target::DefaultOrDecl => decl | (k == 43),
-        Target::Range => k == 41,
+        Target::ValueOrDecl(v) => decl | (kinds::is_value(k) & (table::one(table, place) == v)),
+        Target::DefaultOrDecl => decl | (k == kinds::DEFAULT_TAG),
+        Target::Range => k == kinds::TAG_RANGE,
     }
 }

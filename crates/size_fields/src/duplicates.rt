@@ -3,6 +3,7 @@ use faults::Finding;
 use kinds::is_size;
 use repeats::again_marked;
 use repeats::marks::Key;
+use rules::codes;
 ghost use mathlib.Core.Path.{_≡_};
 ghost use Prim.Native.Nat.{_≤_};
 ghost use Rattle.rules.specs.Table.{decode};
@@ -12,25 +13,25 @@ ghost use Rattle.repeats.specs.Marks.{Marked};
 ghost use Rattle.repeats.specs.declared.marks.Key.the-variants.{Sizes, ElementSizes};
 
 // The code of a repeat, before those for missing and for no array.
-pub fn size_code(k: u8) -> u16
-    requires { ⌜ 22 ≤ k ⌝ }
-    ensures { λ r. ⌜ r ≡ sizeCode k ⌝ }
+pub fn size_code(kind: u8) -> u16
+    requires { ⌜ 22 ≤ kind ⌝ }
+    ensures { λ r. ⌜ r ≡ sizeCode kind ⌝ }
 {
-    23 + 3 * ((k - 22) as u16)
+    codes::DUPLICATE_SIZE_FIELD + 3 * ((kind - kinds::SIZE) as u16)
 }
 
 // First a repeat: 23, 26, 29. Size and Count share one map, and ElementSize has its own.
-pub fn size_again(t: &[u8], sizes: &[u8], elements: &[u8], p: usize) -> Finding
-    requires { ⌜ Marked (decode (now t)) Sizes (now sizes) × Marked (decode (now t)) ElementSizes (now elements) ⌝ }
-    ensures { λ r. ⌜ findings r ≡ sizeAgain (decode (now (t .entry))) p ⌝ }
+pub fn size_again(table: &[u8], sizes: &[u8], elements: &[u8], place: usize) -> Finding
+    requires { ⌜ Marked (decode (now table)) Sizes (now sizes) × Marked (decode (now table)) ElementSizes (now elements) ⌝ }
+    ensures { λ r. ⌜ findings r ≡ sizeAgain (decode (now (table .entry))) place ⌝ }
 {
-    let k = table::kind(t, p);
+    let k = table::kind(table, place);
     if !is_size(k) {
-        return Finding::Fine;
+        return Finding::None;
     }
     let code = size_code(k);
-    if k == 24 {
-        return again_marked(code, t, Key::ElementSizes, p, elements);
+    if k == kinds::ELEMENT_SIZE {
+        return again_marked(code, table, Key::ElementSizes, place, elements);
     }
-    again_marked(code, t, Key::Sizes, p, sizes)
+    again_marked(code, table, Key::Sizes, place, sizes)
 }

@@ -1,6 +1,11 @@
 // Where pass 5's search for what a Size, Count or ElementSize names may start, so that few records are looked at.
 use kinds::is_decl;
 use kinds::is_size;
+use table::BODY_NAME;
+use table::DIVISOR;
+use table::NO_PLACE;
+use table::PAYLOAD_NAME;
+use table::REMAINDERS;
 ghost use mathlib.Core.Path.{_≡_};
 ghost use mathlib.Core.Bool.{true};
 ghost use Prim.Native.Nat.{_+_, _<_, _≤_};
@@ -10,89 +15,88 @@ ghost use Rattle.rules.specs.Table.{decode, at};
 ghost use Rattle.rules.specs.Places.{firstFrom, firstWithin};
 ghost use Rattle.size_fields.specs.SizeStarts.{targetAt, SizeStarts, nameOf, startFor, Later};
 
-// The only name by which a size can mean the record at p.
-fn name_of(t: &[u8], p: usize) -> u16
-    ensures { λ r. ⌜ r ≡ nameOf (at (decode (now (t .entry))) p) ⌝ }
+// The only name by which a size can mean the record at `place`.
+fn name_of(table: &[u8], place: usize) -> u16
+    ensures { λ r. ⌜ r ≡ nameOf (at (decode (now (table .entry))) place) ⌝ }
 {
-    let k = table::kind(t, p);
-    if k == 26 {
-        return 1;
+    let k = table::kind(table, place);
+    if k == kinds::PAYLOAD {
+        return PAYLOAD_NAME;
     }
-    if k == 25 {
-        return 2;
+    if k == kinds::BODY {
+        return BODY_NAME;
     }
-    table::name(t, p)
+    table::name(table, place)
 }
 
-// The start for a name, if the next declaration stands at e.
-fn start_for(last: &[u16], e: usize, name: u16) -> u16
-    requires { ⌜ (4093 ≤ length (now last)) × (e ≤ 1600) ⌝ }
-    ensures { λ r. ⌜ r ≡ startFor (now (last .entry)) e name ⌝ }
+// The start for a name, if the next declaration stands at `end`.
+fn start_for(last: &[u16], end: usize, name: u16) -> u16
+    requires { ⌜ (4093 ≤ length (now last)) × (end ≤ 1600) ⌝ }
+    ensures { λ r. ⌜ r ≡ startFor (now (last .entry)) end name ⌝ }
 {
-    // The divisor is prime: names that are multiples of a power of two differ in their remainders.
-    let h = (name % 4093) as usize;
+    let h = (name % DIVISOR) as usize;
     let s = last[h];
-    if (s as usize) < e {
+    if (s as usize) < end {
         return s;
     }
-    e as u16
+    end as u16
 }
 
-// The start for the record at q, if it is a size.
-fn set_start(t: &[u8], q: usize, e: usize, last: &[u16], places: &mut [u16])
-    requires { ⌜ (q < 1600) × (e ≤ 1600) × (4093 ≤ length (now last)) × (1600 ≤ length (now places)) × SizeStarts (decode (now t)) (now places) × (firstWithin (decode (now t)) (targetAt (decode (now t)) q) q ≡ firstFrom (decode (now t)) (targetAt (decode (now t)) q) (startFor (now last) e (at (decode (now t)) q .second))) ⌝ }
-    ensures { λ _. ⌜ SizeStarts (decode (now (t .entry))) (now (places .exit)) ⌝ }
+// The start for the record at `place`, if it is a size.
+fn set_start(table: &[u8], place: usize, end: usize, last: &[u16], starts: &mut [u16])
+    requires { ⌜ (place < 1600) × (end ≤ 1600) × (4093 ≤ length (now last)) × (1600 ≤ length (now starts)) × SizeStarts (decode (now table)) (now starts) × (firstWithin (decode (now table)) (targetAt (decode (now table)) place) place ≡ firstFrom (decode (now table)) (targetAt (decode (now table)) place) (startFor (now last) end (at (decode (now table)) place .second))) ⌝ }
+    ensures { λ _. ⌜ SizeStarts (decode (now (table .entry))) (now (starts .exit)) ⌝ }
 {
-    if is_size(table::kind(t, q)) {
-        let s = start_for(last, e, table::second(t, q));
-        places[q] = s;
+    if is_size(table::kind(table, place)) {
+        let s = start_for(last, end, table::second(table, place));
+        starts[place] = s;
     }
 }
 
-// The starts for the sizes of the declaration at d. The next one stands at e.
-fn set_starts(t: &[u8], d: usize, e: usize, last: &[u16], places: &mut [u16])
-    requires { ⌜ (length (decode (now t)) ≤ 1600) × (4093 ≤ length (now last)) × (1600 ≤ length (now places)) × SizeStarts (decode (now t)) (now places) × (isDecl (at (decode (now t)) d .kind) ≡ true) × Later (decode (now t)) (now last) e (d + 1) ⌝ }
-    ensures { λ _. ⌜ SizeStarts (decode (now (t .entry))) (now (places .exit)) ⌝ }
+// The starts for the sizes of the declaration at `decl`. The next one stands at `end`.
+fn set_starts(table: &[u8], decl: usize, end: usize, last: &[u16], starts: &mut [u16])
+    requires { ⌜ (length (decode (now table)) ≤ 1600) × (4093 ≤ length (now last)) × (1600 ≤ length (now starts)) × SizeStarts (decode (now table)) (now starts) × (isDecl (at (decode (now table)) decl .kind) ≡ true) × Later (decode (now table)) (now last) end (decl + 1) ⌝ }
+    ensures { λ _. ⌜ SizeStarts (decode (now (table .entry))) (now (starts .exit)) ⌝ }
 {
-    let mut q = d + 1;
-    while q < e {
-        set_start(t, q, e, last, places);
+    let mut q = decl + 1;
+    while q < end {
+        set_start(table, q, end, last, starts);
         q += 1;
     }
 }
 
-// One place more. The result is the next declaration from p on.
-fn step(t: &[u8], p: usize, e: usize, last: &mut [u16], places: &mut [u16]) -> usize
-    requires { ⌜ (p < length (decode (now t))) × (length (decode (now t)) ≤ 1600) × (4093 ≤ length (now last)) × (1600 ≤ length (now places)) × SizeStarts (decode (now t)) (now places) × Later (decode (now t)) (now last) e (p + 1) ⌝ }
-    ensures { λ r. ⌜ SizeStarts (decode (now (t .entry))) (now (places .exit)) × Later (decode (now (t .entry))) (now (last .exit)) r p ⌝ }
+// One place more. The result is the next declaration from `place` on.
+fn step(table: &[u8], place: usize, end: usize, last: &mut [u16], starts: &mut [u16]) -> usize
+    requires { ⌜ (place < length (decode (now table))) × (length (decode (now table)) ≤ 1600) × (4093 ≤ length (now last)) × (1600 ≤ length (now starts)) × SizeStarts (decode (now table)) (now starts) × Later (decode (now table)) (now last) end (place + 1) ⌝ }
+    ensures { λ r. ⌜ SizeStarts (decode (now (table .entry))) (now (starts .exit)) × Later (decode (now (table .entry))) (now (last .exit)) r place ⌝ }
 {
-    if is_decl(table::kind(t, p)) {
-        set_starts(t, p, e, last, places);
-        return p;
+    if is_decl(table::kind(table, place)) {
+        set_starts(table, place, end, last, starts);
+        return place;
     }
-    let h = (name_of(t, p) % 4093) as usize;
-    last[h] = p as u16;
-    e
+    let h = (name_of(table, place) % DIVISOR) as usize;
+    last[h] = place as u16;
+    end
 }
 
-// All places, from the last to the first.
-fn sweep(t: &[u8], last: &mut [u16], places: &mut [u16])
-    requires { ⌜ (length (decode (now t)) ≤ 1600) × (now last ≡ replicate 4093 65535) × (1600 ≤ length (now places)) × SizeStarts (decode (now t)) (now places) ⌝ }
-    ensures { λ _. ⌜ SizeStarts (decode (now (t .entry))) (now (places .exit)) ⌝ }
+// All `starts`, from the last to the first.
+fn fill_places(table: &[u8], last: &mut [u16], starts: &mut [u16])
+    requires { ⌜ (length (decode (now table)) ≤ 1600) × (now last ≡ replicate 4093 65535) × (1600 ≤ length (now starts)) × SizeStarts (decode (now table)) (now starts) ⌝ }
+    ensures { λ _. ⌜ SizeStarts (decode (now (table .entry))) (now (starts .exit)) ⌝ }
 {
-    let mut p = table::count(t);
+    let mut p = table::count(table);
     let mut e = p;
     while 0 < p {
         p -= 1;
-        e = step(t, p, e, last, places);
+        e = step(table, p, e, last, starts);
     }
 }
 
-// Fills the places, at which no start is known at first.
-pub fn fill(t: &[u8], places: &mut [u16])
-    requires { ⌜ (length (decode (now t)) ≤ 1600) × (1600 ≤ length (now places)) × SizeStarts (decode (now t)) (now places) ⌝ }
-    ensures { λ _. ⌜ SizeStarts (decode (now (t .entry))) (now (places .exit)) ⌝ }
+// Fills the `starts`, at which no start is known at first.
+pub fn fill(table: &[u8], starts: &mut [u16])
+    requires { ⌜ (length (decode (now table)) ≤ 1600) × (1600 ≤ length (now starts)) × SizeStarts (decode (now table)) (now starts) ⌝ }
+    ensures { λ _. ⌜ SizeStarts (decode (now (table .entry))) (now (starts .exit)) ⌝ }
 {
-    let mut last = [65535u16; 4093];
-    sweep(t, &mut last, places);
+    let mut last = [NO_PLACE; REMAINDERS];
+    fill_places(table, &mut last, starts);
 }

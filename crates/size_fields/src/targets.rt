@@ -13,36 +13,36 @@ ghost use Rattle.faults.specs.Notes.{findings};
 ghost use Rattle.size_fields.specs.SizeStarts.{SizeStarts};
 
 // For Size a Payload also matches 1 and a Body 2.
-fn matching(k: u8, n: u16) -> Target
-    ensures { λ r. ⌜ r ≡ matching k n ⌝ }
+fn matching(kind: u8, name: u16) -> Target
+    ensures { λ r. ⌜ r ≡ matching kind name ⌝ }
 {
-    if k == 22 {
-        return Target::SizedOrDecl(n);
+    if kind == kinds::SIZE {
+        return Target::SizedOrDecl(name);
     }
-    Target::NameOrDecl(n)
+    Target::NameOrDecl(name)
 }
 
-fn is_sized(k: u8) -> bool
-    ensures { λ r. ⌜ r ≡ isSized k ⌝ }
+fn is_sized(kind: u8) -> bool
+    ensures { λ r. ⌜ r ≡ isSized kind ⌝ }
 {
-    ((25 <= k) & (k <= 26)) | (k == 30)
+    kinds::is_payload(kind) | (kind == kinds::ARRAY)
 }
 
 // Missing, or the first match no array.
-fn misnamed(code: u16, t: &[u8], p: usize, found: Found) -> Finding
+fn misnamed(code: u16, table: &[u8], place: usize, found: Found) -> Finding
     requires { ⌜ code + 2 < 65536 ⌝ }
-    ensures { λ r. ⌜ findings r ≡ misnamed code (decode (now (t .entry))) p found ⌝ }
+    ensures { λ r. ⌜ findings r ≡ misnamed code (decode (now (table .entry))) place found ⌝ }
 {
-    let r = records::at(t, p);
+    let r = records::at(table, place);
     match found {
         Found::At(q) => {
-            let s = records::at(t, q);
+            let s = records::at(table, q);
             let k = s.kind;
             if kinds::is_decl(k) {
                 return Finding::One(faults::fault::single(code + 1, r));
             }
             if is_sized(k) {
-                return Finding::Fine;
+                return Finding::None;
             }
             Finding::One(faults::fault::double(code + 2, r, s))
         }
@@ -51,14 +51,14 @@ fn misnamed(code: u16, t: &[u8], p: usize, found: Found) -> Finding
 }
 
 // Then missing 24, 27, 30, or no array 25, 28, 31.
-pub fn size_target(t: &[u8], places: &[u16], p: usize) -> Finding
-    requires { ⌜ SizeStarts (decode (now t)) (now places) ⌝ }
-    ensures { λ r. ⌜ findings r ≡ sizeTarget (decode (now (t .entry))) p ⌝ }
+pub fn size_target(table: &[u8], starts: &[u16], place: usize) -> Finding
+    requires { ⌜ SizeStarts (decode (now table)) (now starts) ⌝ }
+    ensures { λ r. ⌜ findings r ≡ sizeTarget (decode (now (table .entry))) place ⌝ }
 {
-    let r = records::at(t, p);
+    let r = records::at(table, place);
     if !is_size(r.kind) {
-        return Finding::Fine;
+        return Finding::None;
     }
-    let found = first_match(t, places, matching(r.kind, r.second), p);
-    misnamed(size_code(r.kind), t, p, found)
+    let found = first_match(table, starts, matching(r.kind, r.second), place);
+    misnamed(size_code(r.kind), table, place, found)
 }

@@ -10,14 +10,14 @@ pub struct Walker<'a> {
     pub place: usize,
 }
 
-// The place behind p; past the end p stays.
-fn next_place(t: &[u8], p: usize) -> usize
-    ensures { λ r. ⌜ r ≡ nextPlace (decode (now (t .entry))) p ⌝ }
+// The place behind `place`; past the end `place` stays.
+fn next_place(table: &[u8], place: usize) -> usize
+    ensures { λ r. ⌜ r ≡ nextPlace (decode (now (table .entry))) place ⌝ }
 {
-    if p < table::count(t) {
-        return p + 1;
+    if place < table::count(table) {
+        return place + 1;
     }
-    p
+    place
 }
 
 // A walker at a place of a table.
@@ -28,26 +28,26 @@ pub fn new<'a>(table: &'a [u8], place: usize) -> Walker<'a>
 }
 
 // The kind of the record at the walker's place: 0 past the end.
-pub fn kind<'a>(w: Walker<'a>) -> u8
-    ensures { λ r. ⌜ r ≡ at (decode (now (w .entry .table))) (w .entry .place) .kind ⌝ }
+pub fn kind<'a>(walker: Walker<'a>) -> u8
+    ensures { λ r. ⌜ r ≡ at (decode (now (walker .entry .table))) (walker .entry .place) .kind ⌝ }
 {
-    table::kind(w.table, w.place)
+    table::kind(walker.table, walker.place)
 }
 
 // The walker at the next place.
-pub fn step<'a>(w: Walker<'a>) -> Walker<'a>
-    ensures { λ r. ⌜ (r .table ≡ w .entry .table) × (r .place ≡ nextPlace (decode (now (w .entry .table))) (w .entry .place)) ⌝ }
+pub fn step<'a>(walker: Walker<'a>) -> Walker<'a>
+    ensures { λ r. ⌜ (r .table ≡ walker .entry .table) × (r .place ≡ nextPlace (decode (now (walker .entry .table))) (walker .entry .place)) ⌝ }
 {
-    let next = next_place(w.table, w.place);
+    let next = next_place(walker.table, walker.place);
     Walker {
-        table: w.table,
+        table: walker.table,
         place: next,
     }
 }
 
-// The kind of the record behind place p: 0 past the end.
-pub fn kind_after(t: &[u8], p: usize) -> u8
-    ensures { λ r. ⌜ r ≡ at (decode (now (t .entry))) (p + 1) .kind ⌝ }
+// The kind of the record behind place `place`: 0 past the end.
+pub fn kind_after(table: &[u8], place: usize) -> u8
+    ensures { λ r. ⌜ r ≡ at (decode (now (table .entry))) (place + 1) .kind ⌝ }
 {
-    kind(step(new(t, p)))
+    kind(step(new(table, place)))
 }

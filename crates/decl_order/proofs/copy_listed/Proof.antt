@@ -1,7 +1,10 @@
 -- `decl_order::copy_listed` meets its contract: the declarations at the first i places are copied. Assumes nothing.
 use borrow.Author.Needs.{needs}
 use native.Mathlib.Omega.{arith}
-use Prim.Native.Nat.{_-_}
+use Prim.Native.Nat.{ℕ, _+_, _-_}
+use mathlib.Core.Path.{ap}
+use denote.Ref.{now}
+use Rattle.table.proofs.Laws.{length-decode}
 use Rattle.decl_order.proofs.Copies.{Copied, copy-start, place-at, copy-call, copied-long, copy-turn, copy-end}
 use Rattle.decl_order.proofs.copy_listed.Statement.{statement}
 use Rattle.decl_order.proofs.copy_listed.Tie as tie
@@ -18,17 +21,22 @@ loop-holds c = copy-start _ _ _ _
 cast-d : tie.Need-cast-d Inv-loop μ-loop
 cast-d c = omega (arith, c .shared-slice-known3 .given (c .before .before .loop .i))
 
-record-count-requires : tie.Need-record-count-requires Inv-loop μ-loop
-record-count-requires c κs =
+member-count-requires : tie.Need-member-count-requires Inv-loop μ-loop
+member-count-requires c κs =
     let s = c .before .before .before .before .before .before in
     place-at _ _ _ _ (s .pre .0) (s .pre .1) _ (c .before .loop-test .taken)
+
+add-m : tie.Need-add-m Inv-loop μ-loop
+add-m c =
+    let s = c .before .before .before .before .before .before .before in
+    omega (arith, c .member-count .ensures .1, length-decode (now (s .args .table)))
 
 copy-requires : tie.Need-copy-requires Inv-loop μ-loop
 copy-requires c κs =
     let t′ = c .before .before .before in
     let l = t′ .before in
     let s = l .before .before .before .before in
-    copy-call _ _ _ _ (s .pre .0) (s .pre .1) _ _ _ (l .loop .inv) (t′ .loop-test .taken) _ (c .before .record-count .ensures)
+    copy-call _ _ _ _ (s .pre .0) (s .pre .1) _ _ _ (l .loop .inv) (t′ .loop-test .taken) _ (ap (λ (x : ℕ). 1 + x) (c .before .member-count .ensures .0))
 
 add-count : tie.Need-add-count Inv-loop μ-loop
 add-count c =
@@ -36,7 +44,7 @@ add-count c =
     let t′ = k .before .before in
     let l = t′ .before in
     let s = l .before .before .before .before in
-    omega (arith, copy-call _ _ _ _ (s .pre .0) (s .pre .1) _ _ _ (l .loop .inv) (t′ .loop-test .taken) _ (k .record-count .ensures) .1, copied-long _ _ _ _ (s .pre .0) (s .pre .1) _ _ _ (l .loop .inv))
+    omega (arith, copy-call _ _ _ _ (s .pre .0) (s .pre .1) _ _ _ (l .loop .inv) (t′ .loop-test .taken) _ (ap (λ (x : ℕ). 1 + x) (k .member-count .ensures .0)) .1, copied-long _ _ _ _ (s .pre .0) (s .pre .1) _ _ _ (l .loop .inv))
 
 loop-again : tie.Need-loop-again Inv-loop μ-loop
 loop-again c =
@@ -44,7 +52,7 @@ loop-again c =
     let t′ = k .before .before in
     let l = t′ .before in
     let s = l .before .before .before .before in
-    copy-turn _ _ _ _ (s .pre .0) (s .pre .1) _ _ _ (l .loop .inv) (t′ .loop-test .taken) _ (k .record-count .ensures) _ (c .before .before .copy .ensures)
+    copy-turn _ _ _ _ (s .pre .0) (s .pre .1) _ _ _ (l .loop .inv) (t′ .loop-test .taken) _ (ap (λ (x : ℕ). 1 + x) (k .member-count .ensures .0)) _ (c .before .before .copy .ensures)
 
 same-length : tie.Need-same-length Inv-loop μ-loop
 same-length c =
@@ -60,5 +68,5 @@ pub copy-listed-spec : {M : Type 1} → statement M
 copy-listed-spec =
     tie.close
     (tie.spec
-    Inv-loop μ-loop loop-holds (λ c. search needs) (λ c. search needs) cast-d record-count-requires copy-requires add-count
+    Inv-loop μ-loop loop-holds (λ c. search needs) (λ c. search needs) cast-d member-count-requires add-m copy-requires add-count
     (λ c. search needs) (λ c. search needs) loop-again same-length returns)

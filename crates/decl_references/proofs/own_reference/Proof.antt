@@ -8,11 +8,16 @@ use Rattle.decl_references.proofs.own_reference.Tie as tie
 returns : tie.Need-returns
 returns c =
     let i = c .before .before in
-    c .parent-reference .ensures ∙ own-parent _ _ (i .before .before .before .before .at .ensures) (c .before .decl-named .ensures) (i .if1 .taken)
+    let k = i .before .before in
+    c .parent-reference .ensures
+    ∙ own-parent _ _ (k .before .at .ensures) (c .before .decl-named .ensures) (rw (← k .is-packet-or-struct .ensures) (i .if1 .taken))
+
+returns-2 : tie.Need-returns-2
+returns-2 c =
+    let k = c .before .before in
+    own-nowhere _ _ (k .before .at .ensures) (rw (← k .is-packet-or-struct .ensures) (c .if1 .left))
 
 pub own-reference-spec : {M : Type 1} → statement M
 own-reference-spec =
     tie.close
-    (tie.spec
-    (λ c κs. search needs) (λ c κs. search needs) (λ c κs. search needs) returns
-    (λ c. own-nowhere _ _ (c .before .before .before .before .at .ensures) (c .if1 .left)))
+    (tie.spec (λ c κs. search needs) (λ c κs. search needs) (λ c κs. search needs) (λ c κs. search needs) returns returns-2)

@@ -1,5 +1,5 @@
 -- The cycle of calls of `decl_visits::visit` and `decl_visits::walk` meets its contracts. Each measure is the pair of the unvisited places and
--- the fields left, as one number; the laws are in Ready.
+-- the fields left, as one number; the laws are in VisitReady.
 -- Assumes nothing.
 use borrow.Author.Needs.{needs}
 use mathlib.Core.Path.{sym, _∙_}
@@ -12,7 +12,7 @@ use borrow.Fn.PlainCycle.{Measures, is, falls, and}
 use Rattle.rules.specs.Table.{decode}
 use Rattle.decl_visits.specs.Contract.{unvisitedCount}
 use Rattle.decl_visits.proofs.Bounds.{member-below}
-use Rattle.decl_visits.proofs.Ready.{follow-in, Step, step-follow, step-wrong, step-nowhere, call-note, mark-in, next-fits, call-walk, call-own, call-list, ret-new, ret-open, ret-listed, call-field, call-rest, ret-more, walked-end}
+use Rattle.decl_visits.proofs.VisitReady.{follow-in, Step, step-follow, step-wrong, step-nowhere, call-note, mark-in, next-fits, call-walk, call-own, call-list, ret-new, ret-open, ret-listed, call-field, call-rest, ret-more, walked-end}
 use Rattle.decl_visits.proofs.visit.Reads as visit
 use Rattle.decl_visits.proofs.visit.Kinds as visit-kinds
 use Rattle.decl_visits.proofs.+visit+walk.Lts-visit as visit-lts
@@ -69,7 +69,7 @@ visit-visit-requires t c κs =
     let s = i .before .before .before .before .before .before .before in
     let h = call-own _ _ _ _ _ (s .pre .1 .0) (s .pre .1 .1) (i .if1 .taken)
     (w .walk .ensures) (w .walk .kept .1 .1 .1 .1 .0) (o .own-reference .ensures) (s .pre .0) in
-    (h .0, (follow-in (decode (s .args .t .now)) (e .r .given .1) (h .1 .0), h .1 .1, s .pre .1 .2))
+    (h .0, (follow-in (decode (s .args .table .now)) (e .r .given .1) (h .1 .0), h .1 .1, s .pre .1 .2))
 
 visit-note-requires : (t : ℕ) → visit-lts.Need-note-requires (visit-claims t) (visit-at t) visit.Post
 visit-note-requires t c κs =
@@ -85,7 +85,7 @@ visit-note-requires t c κs =
 visit-join : (t : ℕ) (c : visit-lts.At-match-came (visit-claims t) (visit-at t) visit.Post)
     → let w = c .before .before .before .before .before .before .before .before in
     let s = w .before .before .before .before .before .before .before .before .before .before .before in
-    Step (decode (s .args .t .now)) (c .before .own-reference .result) (w .walk .last .1 .1 .1 .0) (w .walk .last .1 .1 .1 .1 .0) (w .walk .last .1 .1 .1 .1 .1 .0) (w .walk .result)
+    Step (decode (s .args .table .now)) (c .before .own-reference .result) (w .walk .last .1 .1 .1 .0) (w .walk .last .1 .1 .1 .1 .0) (w .walk .last .1 .1 .1 .1 .1 .0) (w .walk .result)
     (c .match .marks) (c .match .places) (c .match .buffer) (c .match .g)
 visit-join t c =
     ⊎-elim
@@ -110,7 +110,7 @@ visit-same-length t c =
     let x = l .before .before .before in
     let w = x .before .before .before .before .before .before .before .before in
     let s = w .before .before .before .before .before .before .before .before .before .before .before in
-    l .list .kept .1 .0 ∙ visit-join t x .marks-long ∙ w .walk .kept .1 .1 .1 .0 ∙ length-set (s .args .marks .now) (s .args .d) 1
+    l .list .kept .1 .0 ∙ visit-join t x .marks-long ∙ w .walk .kept .1 .1 .1 .0 ∙ length-set (s .args .marks .now) (s .args .decl) 1
 
 visit-returns : (t : ℕ) → visit-lts.Need-returns (visit-claims t) (visit-at t) visit.Post
 visit-returns t c =
@@ -140,7 +140,7 @@ walk-visit-requires t c κs =
     let s = n .before .before .before .before .before .before in
     let h = call-field _ _ _ _ _ (n .next-reference .ensures) (sym (m .member-at .ensures) ∙ i .if1 .taken)
     (s .pre .1 .0) (f .field-reference .ensures) (s .pre .0) in
-    (h .0, (follow-in (decode (s .args .t .now)) (e .r .given .1) (h .1 .0), h .1 .1, s .pre .1 .1))
+    (h .0, (follow-in (decode (s .args .table .now)) (e .r .given .1) (h .1 .0), h .1 .1, s .pre .1 .1))
 
 walk-note-requires : (t : ℕ) → walk-lts.Need-note-requires (walk-claims t) (walk-at t) walk.Post
 walk-note-requires t c κs =
@@ -156,7 +156,7 @@ walk-note-requires t c κs =
 -- where the arms on the field meet
 walk-join : (t : ℕ) (c : walk-lts.At-match-came (walk-claims t) (walk-at t) walk.Post)
     → let s = c .before .before .before .before .before .before .before .before .before .before in
-    Step (decode (s .args .t .now)) (c .before .field-reference .result) (s .args .marks .now) (s .args .places .now) (s .args .buffer .now) (s .args .a)
+    Step (decode (s .args .table .now)) (c .before .field-reference .result) (s .args .marks .now) (s .args .places .now) (s .args .buffer .now) (s .args .progress)
     (c .match .marks) (c .match .places) (c .match .buffer) (c .match .b)
 walk-join t c =
     ⊎-elim
@@ -170,7 +170,7 @@ walk-add-walk t c =
     let m = c .before .before .before in
     let n = m .before in
     let s = n .before .before .before .before .before .before in
-    let h = member-below (decode (s .args .t .now)) (n .next-reference .result) (sym (m .member-at .ensures) ∙ c .before .before .if1 .taken) in
+    let h = member-below (decode (s .args .table .now)) (n .next-reference .result) (sym (m .member-at .ensures) ∙ c .before .before .if1 .taken) in
     let w = s .pre .1 .0 .few in omega arith
 
 walk-walk-requires : (t : ℕ) → walk-lts.Need-walk-requires (walk-claims t) (walk-at t) walk.Post

@@ -19,12 +19,12 @@ abbrev μ-loop : tie.MeasureT-loop
 add-q : tie.Need-add-q Inv-loop μ-loop
 add-q c =
     let s = c .before .before .before .before in
-    omega (arith, skip-below (decode (s .args .t .now)) (sym (c .before .refers-nowhere .ensures) ∙ c .if1 .taken), s .pre)
+    omega (arith, skip-below (decode (s .args .table .now)) (sym (c .before .refers-nowhere .ensures) ∙ c .if1 .taken), s .pre)
 
 loop-less : tie.Need-loop-less Inv-loop μ-loop
 loop-less c =
     let s = c .before .before .before .before in
-    omega (arith, skip-below (decode (s .args .t .now)) (sym (c .before .refers-nowhere .ensures) ∙ c .if1 .taken))
+    omega (arith, skip-below (decode (s .args .table .now)) (sym (c .before .refers-nowhere .ensures) ∙ c .if1 .taken))
 
 loop-again : tie.Need-loop-again Inv-loop μ-loop
 loop-again c = skip-more _ (c .before .before .loop .inv) (sym (c .before .refers-nowhere .ensures) ∙ c .if1 .taken)

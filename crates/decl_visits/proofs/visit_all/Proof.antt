@@ -24,7 +24,7 @@ visit-root-requires : tie.Need-visit-root-requires Inv-loop μ-loop
 visit-root-requires c κs =
     let l = c .before .before .before .before in
     let n = l .before .before in
-    let i : l .loop .p < length (decode (n .before .before .before .before .before .before .args .t .now)) = omega (arith, n .count .ensures, c .before .before .before .loop-test .taken) in
+    let i : l .loop .p < length (decode (n .before .before .before .before .before .before .args .table .now)) = omega (arith, n .count .ensures, c .before .before .before .loop-test .taken) in
     (i, loop-call _ _ _ _ _ _ _ _ (l .loop .inv) i, n .before .before .before .before .before .before .pre .3)
 
 add-p : tie.Need-add-p Inv-loop μ-loop
@@ -46,7 +46,7 @@ loop-again c =
     let l = t′ .before in
     let n = l .before .before in
     let v = v′ .visit-root in
-    let i : l .loop .p < length (decode (n .before .before .before .before .before .before .args .t .now)) = omega (arith, n .count .ensures, t′ .loop-test .taken) in
+    let i : l .loop .p < length (decode (n .before .before .before .before .before .before .args .table .now)) = omega (arith, n .count .ensures, t′ .loop-test .taken) in
     loop-turn _ _ _ _ _ _ _ _ (l .loop .inv) i _ _ _ _ (v .ensures) (v .kept .1 .1 .1 .1 .0) (v .kept .1 .1 .1 .1 .1 .0)
 
 same-length : tie.Need-same-length Inv-loop μ-loop
@@ -64,7 +64,7 @@ returns : tie.Need-returns Inv-loop μ-loop
 returns c =
     let l = c .before in
     let n = l .before .before in
-    let i : length (decode (n .before .before .before .before .before .before .args .t .now)) ≤ l .loop .p = omega (arith, n .count .ensures, c .loop-test .left) in
+    let i : length (decode (n .before .before .before .before .before .before .args .table .now)) ≤ l .loop .p = omega (arith, n .count .ensures, c .loop-test .left) in
     loop-end _ _ _ _ _ _ _ _ (l .loop .inv) i
 
 pub visit-all-spec : {M : Type 1} → statement M

@@ -2,7 +2,7 @@
 use borrow.Author.Needs.{needs}
 use mathlib.Core.Path.{sym, _∙_}
 use Rattle.rules.specs.Table.{decode}
-use Rattle.decl_visits.proofs.Ready.{follow-in, within-root, call-note, ret-follow, ret-wrong, ret-nowhere}
+use Rattle.decl_visits.proofs.VisitReady.{follow-in, within-root, call-note, ret-follow, ret-wrong, ret-nowhere}
 use Rattle.decl_visits.proofs.visit_root.Statement.{statement}
 use Rattle.decl_visits.proofs.visit_root.Tie as tie
 
@@ -11,8 +11,8 @@ visit-requires c κs =
     let d = c .before .before .before .before in
     let r = d .before .before in
     let s = r .before .before .before .before .before .before in
-    let rs = decode (s .args .t .now) in
-    (follow-in rs (d .d .given .1) (rw (r .root-reference .ensures) (within-root rs (s .args .p) (s .pre .0))), s .pre .1, s .pre .2)
+    let rs = decode (s .args .table .now) in
+    (follow-in rs (d .d .given .1) (rw (r .root-reference .ensures) (within-root rs (s .args .place) (s .pre .0))), s .pre .1, s .pre .2)
 
 note-requires : tie.Need-note-requires
 note-requires c κs =

@@ -38,7 +38,7 @@ returns-2 c =
     let l = c .before in
     let s = l .before .before .before in
     let e = le-antisymm (l .loop .inv .1) (c .loop-test .left) ∙ l .loop .inv .2 in
-    λ _. sym (ap (λ (d : ℕ). each (pass4At (decode (now (s .args .t)))) d) e) ∙ l .loop .inv .0
+    λ _. sym (ap (λ (d : ℕ). each (pass4At (decode (now (s .args .table)))) d) e) ∙ l .loop .inv .0
 
 pub has-enum-spec : {M : Type 1} → statement M
 has-enum-spec =

@@ -20,9 +20,9 @@ note-overlaps-requires c κs =
     let n = c .before .before .before .before in
     let o = n .before .before .before .before .before .before .before .before .before .before in
     let s = o .before .before .before .before .before .before .before .before .before .before .before in
-    let rs = decode (now (s .args .t)) in
-    let after = total-after _ _ (tagsFaults rs (s .args .d) (s .args .n)) (n .note-tags .ensures) in
-    let few = tags-few rs (s .args .d) (s .args .n) (omega (arith, s .pre)) in
+    let rs = decode (now (s .args .table)) in
+    let after = total-after _ _ (tagsFaults rs (s .args .decl) (s .args .tags)) (n .note-tags .ensures) in
+    let few = tags-few rs (s .args .decl) (s .args .tags) (omega (arith, s .pre)) in
     let b = o .arrange .ensures .1 in
     (omega (arith, s .pre), omega (arith, s .pre), omega (arith, s .pre))
 

@@ -17,7 +17,7 @@ note-enum-requires : tie.Need-note-enum-requires
 note-enum-requires c κs =
     let t = c .before .before .before .before in
     let s = t .before .before .before .before .before .before .before .before .before .before in
-    (omega (arith, s .pre, t .tag-count .ensures), s .pre .2, s .pre .3, s .pre .4, s .pre .5, s .pre .6, s .pre .7)
+    (omega (arith, s .pre, t .member-count .ensures), s .pre .2, s .pre .3, s .pre .4, s .pre .5, s .pre .6, s .pre .7)
 
 returns-2 : tie.Need-returns-2
 unfolding pass4At
@@ -26,7 +26,7 @@ returns-2 c =
     let t = n .before .before .before .before .before in
     let i = t .before in
     let k = i .before in
-    rw (← k .kind .ensures, eq-eqb _ _ (i .if1 .left), ← t .tag-count .ensures .0) (n .note-enum .ensures)
+    rw (← k .kind .ensures, eq-eqb _ _ (i .if1 .left), ← t .member-count .ensures .0) (n .note-enum .ensures)
 
 pub note-place-spec : {M : Type 1} → statement M
 note-place-spec =

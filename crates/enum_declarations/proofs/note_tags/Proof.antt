@@ -28,14 +28,14 @@ abbrev μ-loop : tie.MeasureT-loop
 loop-holds : tie.Need-loop-holds Inv-loop μ-loop
 loop-holds c =
     let s = c .before .before .before .before .before .before in
-    (noted-start _ _, search needs, refl, ap (λ (p : ℕ). rangeBefore (decode (now (s .args .t))) p) (add-zero (s .args .d + 1)))
+    (noted-start _ _, search needs, refl, ap (λ (p : ℕ). rangeBefore (decode (now (s .args .table))) p) (add-zero (s .args .decl + 1)))
 
 note-tag-requires : tie.Need-note-tag-requires Inv-loop μ-loop
 note-tag-requires c κs =
     let l = c .before .before in
     let s = l .before .before .before .before .before .before .before in
-    let few = tag-few (decode (now (s .args .t))) (s .args .d) (s .args .n) in
-    let total = each-total _ 1603 (l .loop .i) _ _ (λ i. few (s .args .d + 1 + i) (search needs)) (l .loop .inv .0) in
+    let few = tag-few (decode (now (s .args .table))) (s .args .decl) (s .args .tags) in
+    let total = each-total _ 1603 (l .loop .i) _ _ (λ i. few (s .args .decl + 1 + i) (search needs)) (l .loop .inv .0) in
     (search needs, omega arith, search needs, search needs, search needs, search needs)
 
 loop-again : tie.Need-loop-again Inv-loop μ-loop
@@ -43,7 +43,7 @@ loop-again c =
     let n = c .before .before .before in
     let l = n .before .before .before in
     let s = l .before .before .before .before .before .before .before in
-    let next = ap (λ (p : ℕ). rangeBefore (decode (now (s .args .t))) p) (sym (add-assoc (s .args .d + 1) (l .loop .i) 1)) in
+    let next = ap (λ (p : ℕ). rangeBefore (decode (now (s .args .table))) p) (sym (add-assoc (s .args .decl + 1) (l .loop .i) 1)) in
     let noted = noted-place _ (l .loop .i) _ _ (l .loop .inv .0) refl (n .note-tag .ensures) in
     (noted, search needs, search needs, next ∙ c .after-range .ensures)
 

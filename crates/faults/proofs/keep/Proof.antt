@@ -12,11 +12,11 @@ returns c =
     let w = c .before .before in
     let b = w .before .before .before in
     let a = b .before .before .before .args in
-    rw (w .write .ensures, b .bytes-of .ensures) (sym (noted-kept (tallied (a .kept) (a .total)) (now (a .buffer)) (a .f) (b .before .if1 .taken)))
+    rw (w .write .ensures, b .bytes-of .ensures) (sym (noted-kept (tallied (a .kept) (a .total)) (now (a .buffer)) (a .fault) (b .before .if1 .taken)))
 
 returns-2 : tie.Need-returns-2
 returns-2 c =
-    let a = c .before .before .args in sym (noted-full (tallied (a .kept) (a .total)) (now (a .buffer)) (a .f) (c .if1 .left))
+    let a = c .before .before .args in sym (noted-full (tallied (a .kept) (a .total)) (now (a .buffer)) (a .fault) (c .if1 .left))
 
 pub keep-spec : {M : Type 1} → statement M
 keep-spec =

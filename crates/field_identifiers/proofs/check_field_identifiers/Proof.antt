@@ -31,7 +31,7 @@ note-at-requires : tie.Need-note-at-requires Inv-loop μ-loop
 note-at-requires c κs =
     let l = c .before .before in
     let s = l .before .before .before .before .before .before in
-    (omega (arith, l .loop .inv .4, l .loop .inv .2, length-decode (now (s .args .t))), s .pre)
+    (omega (arith, l .loop .inv .4, l .loop .inv .2, length-decode (now (s .args .table))), s .pre)
 
 loop-again : tie.Need-loop-again Inv-loop μ-loop
 loop-again c =

@@ -18,7 +18,7 @@ returns c =
     let k = i .before in
     let m = k .before in
     let s = m .before .before .before .before in
-    let l = passed-over (decode (now (s .args .t))) (now (s .args .names)) (s .args .p) (s .pre .1) (rw (← m .mark-at .ensures, ← k .kind .ensures, ← i .is-named-field .ensures) (not-true _ (c .if1 .taken))) in
+    let l = passed-over (decode (now (s .args .table))) (now (s .args .names)) (s .args .place) (s .pre .1) (rw (← m .mark-at .ensures, ← k .kind .ensures, ← i .is-named-field .ensures) (not-true _ (c .if1 .taken))) in
     (noted-none _ ∙ ap (notedAll _) l, omega arith)
 
 returns-2 : tie.Need-returns-2

@@ -30,9 +30,9 @@ returns c =
     let t′ = k .before in
     let l = t′ .before in
     let s = l .before .before .before in
-    let rs = decode (now (s .args .t)) in
+    let rs = decode (now (s .args .table)) in
     let below : l .loop .p < length rs = omega (arith, l .loop .inv .1, t′ .loop-test .taken) in
-    omega (arith, l .loop .inv .0, ap length (entries-decl rs (s .args .x) (l .loop .p) below (rw (← k .kind .ensures) (sym (d .is-decl .ensures) ∙ c .if1 .taken))))
+    omega (arith, l .loop .inv .0, ap length (entries-decl rs (s .args .flag) (l .loop .p) below (rw (← k .kind .ensures) (sym (d .is-decl .ensures) ∙ c .if1 .taken))))
 
 loop-again : tie.Need-loop-again Inv-loop μ-loop
 loop-again c =
@@ -43,10 +43,10 @@ loop-again c =
     let t′ = k .before in
     let l = t′ .before in
     let s = l .before .before .before in
-    let rs = decode (now (s .args .t)) in
+    let rs = decode (now (s .args .table)) in
     let below : l .loop .p < length rs = omega (arith, l .loop .inv .1, t′ .loop-test .taken) in
     let inside : isDecl (at rs (l .loop .p) .kind) ≡ false = rw (← k .kind .ensures) (sym (d .is-decl .ensures) ∙ f .if1 .left) in
-    (omega (arith, l .loop .inv .0, ap length (entries-hit rs (s .args .x) (l .loop .p) below inside (sym (i .is-condition-on .ensures) ∙ c .if2 .taken))), l .loop .inv .1, omega (arith, l .loop .inv .2))
+    (omega (arith, l .loop .inv .0, ap length (entries-hit rs (s .args .flag) (l .loop .p) below inside (sym (i .is-condition-on .ensures) ∙ c .if2 .taken))), l .loop .inv .1, omega (arith, l .loop .inv .2))
 
 loop-again-2 : tie.Need-loop-again-2 Inv-loop μ-loop
 loop-again-2 c =
@@ -57,18 +57,18 @@ loop-again-2 c =
     let t′ = k .before in
     let l = t′ .before in
     let s = l .before .before .before in
-    let rs = decode (now (s .args .t)) in
+    let rs = decode (now (s .args .table)) in
     let below : l .loop .p < length rs = omega (arith, l .loop .inv .1, t′ .loop-test .taken) in
     let inside : isDecl (at rs (l .loop .p) .kind) ≡ false = rw (← k .kind .ensures) (sym (d .is-decl .ensures) ∙ f .if1 .left) in
-    (omega (arith, l .loop .inv .0, ap length (entries-miss rs (s .args .x) (l .loop .p) below inside (sym (i .is-condition-on .ensures) ∙ c .if2 .left))), l .loop .inv .1, omega (arith, l .loop .inv .2))
+    (omega (arith, l .loop .inv .0, ap length (entries-miss rs (s .args .flag) (l .loop .p) below inside (sym (i .is-condition-on .ensures) ∙ c .if2 .left))), l .loop .inv .1, omega (arith, l .loop .inv .2))
 
 returns-2 : tie.Need-returns-2 Inv-loop μ-loop
 returns-2 c =
     let l = c .before in
     let s = l .before .before .before in
-    let rs = decode (now (s .args .t)) in
+    let rs = decode (now (s .args .table)) in
     let past : length rs ≤ l .loop .p = omega (arith, l .loop .inv .1, c .loop-test .left) in
-    omega (arith, l .loop .inv .0, ap length (entries-end rs (s .args .x) (l .loop .p) past))
+    omega (arith, l .loop .inv .0, ap length (entries-end rs (s .args .flag) (l .loop .p) past))
 
 pub count-entries-spec : {M : Type 1} → statement M
 count-entries-spec =

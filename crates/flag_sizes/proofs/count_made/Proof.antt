@@ -19,16 +19,16 @@ returns : tie.Need-returns
 returns c =
     let n = c .before .before in
     let s = n .before .before .before in
-    let rs = decode (now (s .args .t)) in
-    ap length (of-none rs (at rs (s .args .p)) (s .args .a) (s .pre .1 .clear (at rs (s .args .p) .name) (rw (← n .name .ensures) (c .if1 .taken))))
+    let rs = decode (now (s .args .table)) in
+    ap length (of-none rs (at rs (s .args .place)) (s .args .members) (s .pre .1 .clear (at rs (s .args .place) .name) (rw (← n .name .ensures) (c .if1 .taken))))
 
 returns-2 : tie.Need-returns-2
 returns-2 c =
     let i = c .before in
     let k = i .before in
     let s = k .before .before .before .before .before .before in
-    let rs = decode (now (s .args .t)) in
-    ap length (of-other rs (at rs (s .args .p)) (s .args .a) (rw (← k .kind .ensures) (sym (i .is-named-field .ensures) ∙ not-true _ (c .if2 .taken))))
+    let rs = decode (now (s .args .table)) in
+    ap length (of-other rs (at rs (s .args .place)) (s .args .members) (rw (← k .kind .ensures) (sym (i .is-named-field .ensures) ∙ not-true _ (c .if2 .taken))))
 
 returns-3 : tie.Need-returns-3
 returns-3 c =
@@ -37,9 +37,9 @@ returns-3 c =
     let k = i .before in
     let n = k .before .before .before in
     let s = n .before .before .before in
-    let rs = decode (now (s .args .t)) in
-    let named : isNamedField (at rs (s .args .p) .kind) ≡ true = rw (← k .kind .ensures) (sym (i .is-named-field .ensures) ∙ not-false _ (g .if2 .left)) in
-    (rw (n .name .ensures) at (c .count-entries .ensures)) ∙ ap length (of-named rs (at rs (s .args .p)) (s .args .a) named)
+    let rs = decode (now (s .args .table)) in
+    let named : isNamedField (at rs (s .args .place) .kind) ≡ true = rw (← k .kind .ensures) (sym (i .is-named-field .ensures) ∙ not-false _ (g .if2 .left)) in
+    (rw (n .name .ensures) at (c .count-entries .ensures)) ∙ ap length (of-named rs (at rs (s .args .place)) (s .args .members) named)
 
 pub count-made-spec : {M : Type 1} → statement M
 count-made-spec =

@@ -26,7 +26,7 @@ returns c =
     let k = c .before in
     let t′ = k .before in
     let l = t′ .before in
-    let rs = decode (now (l .before .before .before .args .t)) in
+    let rs = decode (now (l .before .before .before .args .table)) in
     let below : l .loop .p < length rs = omega (arith, l .loop .inv .1, t′ .loop-test .taken) in
     omega (arith, l .loop .inv .0, ap length (own-other rs (l .loop .p) below (rw (k .kind .ensures) at (c .if1 .taken))))
 
@@ -35,14 +35,14 @@ loop-again c =
     let k = c .before in
     let t′ = k .before in
     let l = t′ .before in
-    let rs = decode (now (l .before .before .before .args .t)) in
+    let rs = decode (now (l .before .before .before .args .table)) in
     let below : l .loop .p < length rs = omega (arith, l .loop .inv .1, t′ .loop-test .taken) in
     (omega (arith, l .loop .inv .0, ap length (own-hit rs (l .loop .p) below (sym (k .kind .ensures) ∙ c .if1 .left))), l .loop .inv .1, search needs)
 
 returns-2 : tie.Need-returns-2 Inv-loop μ-loop
 returns-2 c =
     let l = c .before in
-    let rs = decode (now (l .before .before .before .args .t)) in
+    let rs = decode (now (l .before .before .before .args .table)) in
     let past : length rs ≤ l .loop .p = omega (arith, l .loop .inv .1, c .loop-test .left) in
     omega (arith, l .loop .inv .0, ap length (own-end rs (l .loop .p) past))
 

@@ -19,7 +19,7 @@ mark-conditions-requires : tie.Need-mark-conditions-requires
 mark-conditions-requires c κs =
     let n = c .before .before in
     let s = c .before .before .before .before .before in
-    (start-bound (decode (now (s .args .t))) (s .args .p + 1) (n .next-start .ensures) (omega (arith, s .pre .0)), s .pre .2 .long)
+    (start-bound (decode (now (s .args .table))) (s .args .place + 1) (n .next-start .ensures) (omega (arith, s .pre .0)), s .pre .2 .long)
 
 returns-2 : tie.Need-returns-2
 returns-2 c = (c .before .before .before .before .before .next-start .ensures, c .before .before .mark-conditions .ensures)

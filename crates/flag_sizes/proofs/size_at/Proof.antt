@@ -18,19 +18,19 @@ add-count-own-2 : tie.Need-add-count-own-2
 add-count-own-2 c =
     let k = c .before in
     let s = k .before .before .before .before in
-    omega (arith, k .count-condition .ensures, condition-few (decode (now (s .args .t))) (s .args .p + 1), s .pre .0, s .pre .1)
+    omega (arith, k .count-condition .ensures, condition-few (decode (now (s .args .table))) (s .args .place + 1), s .pre .0, s .pre .1)
 
 add-result : tie.Need-add-result
 add-result c =
     let k = c .before .before in
     let s = k .before .before .before .before in
-    omega (arith, k .count-condition .ensures, condition-few (decode (now (s .args .t))) (s .args .p + 1))
+    omega (arith, k .count-condition .ensures, condition-few (decode (now (s .args .table))) (s .args .place + 1))
 
 add-result-2 : tie.Need-add-result-2
 add-result-2 c =
     let k = c .before .before in
     let s = k .before .before .before .before in
-    omega (arith, k .count-condition .ensures, condition-few (decode (now (s .args .t))) (s .args .p + 1), c .count-own .ensures, own-all-few (decode (now (s .args .t))) (s .args .p + 1 + k .count-condition .result), s .pre .0)
+    omega (arith, k .count-condition .ensures, condition-few (decode (now (s .args .table))) (s .args .place + 1), c .count-own .ensures, own-all-few (decode (now (s .args .table))) (s .args .place + 1 + k .count-condition .result), s .pre .0)
 
 returns-2 : tie.Need-returns-2
 returns-2 c =
@@ -39,20 +39,20 @@ returns-2 c =
     let f = k .before in
     let s = f .before .before .before in
     let kept = rw (f .before .kind .ensures) at (f .if1 .left) in
-    rw (c .count-own .ensures, k .count-condition .ensures) (size-plain (decode (now (s .args .t))) (s .args .p) refl refl kept (sym (s .pre .2) ∙ g .if2 .taken))
+    rw (c .count-own .ensures, k .count-condition .ensures) (size-plain (decode (now (s .args .table))) (s .args .place) refl refl kept (sym (s .pre .2) ∙ g .if2 .taken))
 
 add-result-3 : tie.Need-add-result-3
 add-result-3 c =
     let k = c .before in
     let s = k .before .before .before .before in
-    omega (arith, k .count-condition .ensures, condition-few (decode (now (s .args .t))) (s .args .p + 1))
+    omega (arith, k .count-condition .ensures, condition-few (decode (now (s .args .table))) (s .args .place + 1))
 
 add-result-4 : tie.Need-add-result-4
 add-result-4 c =
     let k = c .before in
     let s = k .before .before .before .before in
-    let rs = decode (now (s .args .t)) in
-    omega (arith, k .count-condition .ensures, condition-few rs (s .args .p + 1), s .pre .2, of-few rs (at rs (s .args .p)) (membersStart rs (s .args .p)), s .pre .0)
+    let rs = decode (now (s .args .table)) in
+    omega (arith, k .count-condition .ensures, condition-few rs (s .args .place + 1), s .pre .2, of-few rs (at rs (s .args .place)) (membersStart rs (s .args .place)), s .pre .0)
 
 returns-3 : tie.Need-returns-3
 returns-3 c =
@@ -60,7 +60,7 @@ returns-3 c =
     let f = k .before in
     let s = f .before .before .before in
     let kept = rw (f .before .kind .ensures) at (f .if1 .left) in
-    let some = size-flag (decode (now (s .args .t))) (s .args .p) refl refl kept (λ z. c .if2 .left (s .pre .2 ∙ z)) in
+    let some = size-flag (decode (now (s .args .table))) (s .args .place) refl refl kept (λ z. c .if2 .left (s .pre .2 ∙ z)) in
     omega (arith, s .pre .2, k .count-condition .ensures, some)
 
 pub size-at-spec : {M : Type 1} → statement M

@@ -25,10 +25,10 @@ loop-holds : tie.Need-loop-holds Inv-loop μ-loop
 loop-holds c = (progress-start _ _ _, c .count .ensures)
 
 -- the facts of a turn past its first test
-below : (c : tie.Else1 Inv-loop μ-loop) → c .before .before .before .before .loop .p < length (decode (now (c .before .before .before .before .before .before .before .before .args .t)))
+below : (c : tie.Else1 Inv-loop μ-loop) → c .before .before .before .before .loop .p < length (decode (now (c .before .before .before .before .before .before .before .before .args .table)))
 below c = omega (arith, c .before .before .before .before .loop .inv .1, c .before .before .before .loop-test .taken)
 
-inside : (c : tie.Else1 Inv-loop μ-loop) → isDecl (at (decode (now (c .before .before .before .before .before .before .before .before .args .t))) (c .before .before .before .before .loop .p) .kind) ≡ false
+inside : (c : tie.Else1 Inv-loop μ-loop) → isDecl (at (decode (now (c .before .before .before .before .before .before .before .before .args .table))) (c .before .before .before .before .loop .p) .kind) ≡ false
 inside c = rw (← c .before .before .kind .ensures) (sym (c .before .is-decl .ensures) ∙ c .if1 .left)
 
 same-length : tie.Need-same-length Inv-loop μ-loop

@@ -13,8 +13,8 @@ write-head-requires : tie.Need-write-head-requires
 write-head-requires c κs =
     let f = c .before in
     let s = f .before .before .before in
-    let rs = decode (now (s .args .t)) in
-    rw (f .flag-of .ensures) (room-front (flagOf (s .args .r) ∷ conditionAt rs (s .args .p + 1)) (entriesFrom rs (s .args .r .name) (s .args .a)) (s .pre .1))
+    let rs = decode (now (s .args .table)) in
+    rw (f .flag-of .ensures) (room-front (flagOf (s .args .r) ∷ conditionAt rs (s .args .place + 1)) (entriesFrom rs (s .args .r .name) (s .args .members)) (s .pre .1))
 
 write-entries-requires : tie.Need-write-entries-requires
 write-entries-requires c κs =

@@ -23,10 +23,10 @@ loop-holds : tie.Need-loop-holds Inv-loop μ-loop
 loop-holds c = (sized-start _ _ _ (c .before .before .before .before .pre .0 .2), search needs, c .count .ensures, refl)
 
 -- the facts of a declaration
-below : (c : tie.Then1 Inv-loop μ-loop) → c .before .before .before .before .loop .d < length (decode (now (c .before .before .before .before .before .before .before .before .before .args .t)))
+below : (c : tie.Then1 Inv-loop μ-loop) → c .before .before .before .before .loop .d < length (decode (now (c .before .before .before .before .before .before .before .before .before .args .table)))
 below c = omega (arith, c .before .before .before .before .loop .inv .2, c .before .before .before .loop-test .taken)
 
-decl : (c : tie.Then1 Inv-loop μ-loop) → isDecl (at (decode (now (c .before .before .before .before .before .before .before .before .before .args .t))) (c .before .before .before .before .loop .d) .kind) ≡ true
+decl : (c : tie.Then1 Inv-loop μ-loop) → isDecl (at (decode (now (c .before .before .before .before .before .before .before .before .before .args .table))) (c .before .before .before .before .loop .d) .kind) ≡ true
 decl c = rw (← c .before .before .kind .ensures) (sym (c .before .is-decl .ensures) ∙ c .if1 .taken)
 
 size-after-requires : tie.Need-size-after-requires Inv-loop μ-loop

@@ -19,7 +19,7 @@ abbrev μ-loop : tie.MeasureT-loop
 μ-loop t targets sizes d end s₀ after₀ p₀ s after p = end - p
 
 -- the facts of a turn past its first tests
-seen : (c : tie.After-is-constraint-or-condition Inv-loop μ-loop) → Seen (decode (now (c .before .before .before .before .before .before .before .before .before .before .args .t))) (c .before .before .before .before .before .loop .p) (c .before .before .before .kind .result) (c .is-constraint-or-condition .result)
+seen : (c : tie.After-is-constraint-or-condition Inv-loop μ-loop) → Seen (decode (now (c .before .before .before .before .before .before .before .before .before .before .args .table))) (c .before .before .before .before .before .loop .p) (c .before .before .before .kind .result) (c .is-constraint-or-condition .result)
 seen c =
     let i = c .before in
     let k = i .before .before in

@@ -6,7 +6,7 @@ use Rattle.group_sizes.proofs.size_here.Statement.{statement}
 use Rattle.group_sizes.proofs.size_here.Tie as tie
 
 cast-g : tie.Need-cast-g
-cast-g c = omega (arith, c .shared-slice-known .given (c .before .before .args .p))
+cast-g c = omega (arith, c .shared-slice-known .given (c .before .before .args .place))
 
 mul-result : tie.Need-mul-result
 mul-result c = let i = c .before in omega (arith, i .before .pre .1 (i .if1 .taken), i .before .good)

@@ -42,7 +42,7 @@ loop-again c =
     let l = k .before .before in
     let s = l .before .before .before .before in
     let v = l .loop .inv in
-    let n = total-next (now (s .args .sizes)) (decode (now (s .args .t))) (l .loop .d) (ap isKept (sym (k .kind .ensures)) ∙ sym (i .before .is-kept .ensures) ∙ i .if1 .taken) in
+    let n = total-next (now (s .args .sizes)) (decode (now (s .args .table))) (l .loop .d) (ap isKept (sym (k .kind .ensures)) ∙ sym (i .before .is-kept .ensures) ∙ i .if1 .taken) in
     let b = c .shared-slice-known3 .given (l .loop .d) in
     (omega arith, omega arith, search needs, v .3)
 

@@ -48,7 +48,7 @@ abbrev μ-loop : expand-lts.MeasureT-loop
 μ-loop t targets sizes d env₀ n out₀ end s₀ after₀ p₀ env out s after p = end - p
 
 -- the facts of a turn past its first tests
-seen : (t : ℕ) (c : expand-lts.After-is-constraint-or-condition (claims t) (expand-at t) expand.Post Inv-loop μ-loop) → Seen (decode (now (c .before .before .before .before .before .before .before .before .before .before .before .before .args .t))) (c .before .before .before .before .before .loop .p) (c .before .before .before .kind .result) (c .is-constraint-or-condition .result)
+seen : (t : ℕ) (c : expand-lts.After-is-constraint-or-condition (claims t) (expand-at t) expand.Post Inv-loop μ-loop) → Seen (decode (now (c .before .before .before .before .before .before .before .before .before .before .before .before .args .table))) (c .before .before .before .before .before .loop .p) (c .before .before .before .kind .result) (c .is-constraint-or-condition .result)
 seen t c =
     let e = c .before .before .before .kind .ensures in
     record {

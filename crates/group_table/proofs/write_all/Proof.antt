@@ -19,13 +19,13 @@ abbrev μ-loop : tie.MeasureT-loop
 μ-loop t targets sizes env₀ out₀ end s₀ d₀ env out s d = end - d
 
 -- the facts of a declaration that stays
-below : (c : tie.Then1 Inv-loop μ-loop) → c .before .before .before .before .loop .d < length (decode (now (c .before .before .before .before .before .before .before .before .before .before .before .args .t)))
+below : (c : tie.Then1 Inv-loop μ-loop) → c .before .before .before .before .loop .d < length (decode (now (c .before .before .before .before .before .before .before .before .before .before .before .args .table)))
 below c = omega (arith, c .before .before .before .before .loop .inv .2, c .before .before .before .loop-test .taken)
 
 below-end : (c : tie.Then1 Inv-loop μ-loop) → c .before .before .before .before .loop .d + 1 ≤ c .before .before .before .before .before .count .result
 below-end c = let l = c .before .before .before .loop-test .taken in omega arith
 
-keeps : (c : tie.Then1 Inv-loop μ-loop) → isKept (at (decode (now (c .before .before .before .before .before .before .before .before .before .before .before .args .t))) (c .before .before .before .before .loop .d) .kind) ≡ true
+keeps : (c : tie.Then1 Inv-loop μ-loop) → isKept (at (decode (now (c .before .before .before .before .before .before .before .before .before .before .before .args .table))) (c .before .before .before .before .loop .d) .kind) ≡ true
 keeps c = rw (← c .before .before .«record» .ensures) (sym (c .before .is-kept .ensures) ∙ c .if1 .taken)
 
 add-requires : tie.Need-add-requires Inv-loop μ-loop

@@ -28,7 +28,7 @@ abbrev μ-loop : tie.MeasureT-loop
 returns : tie.Need-returns Inv-loop μ-loop
 unfolding layout
 returns c =
-    let t = now (c .before .before .args .t) in
+    let t = now (c .before .before .args .table) in
     let e : Uneven ≡ layout t = rw (ne-eqb (length t % 40) 0 (λ z. c .if1 .taken (omega (arith, z)))) in
     (e, ap layoutNumbered e)
 
@@ -36,7 +36,7 @@ returns-2 : tie.Need-returns-2 Inv-loop μ-loop
 unfolding layout
 returns-2 c =
     let n = c .before in
-    let t = now (n .before .before .before .args .t) in
+    let t = now (n .before .before .before .args .table) in
     let even = eq-eqb (length t % 40) 0 (omega (arith, n .before .if1 .left)) in
     let long = lt-ltb 1600 (n .count .result) (omega (arith, c .if2 .taken)) in
     let e : TooLong ≡ layout t = rw (even, ← n .count .ensures, long) in
@@ -55,7 +55,7 @@ returns-3 c =
     let s = c .before in
     let l = s .before .before in
     let n = l .before .before in
-    let t = now (n .before .before .before .args .t) in
+    let t = now (n .before .before .before .args .table) in
     let even = eq-eqb (length t % 40) 0 (omega (arith, n .before .if1 .left)) in
     let fits = le-ltb 1600 (n .count .result) (omega (arith, l .before .if2 .left)) in
     let unsound = ap not (sym (s .sound-at .ensures)) ∙ c .if3 .taken in
@@ -75,7 +75,7 @@ unfolding layout
 returns-4 c =
     let l = c .before in
     let n = l .before .before in
-    let t = now (n .before .before .before .args .t) in
+    let t = now (n .before .before .before .args .table) in
     let even = eq-eqb (length t % 40) 0 (omega (arith, n .before .if1 .left)) in
     let fits = le-ltb 1600 (n .count .result) (omega (arith, l .before .if2 .left)) in
     let e : Sound ≡ layout t = rw (even, ← n .count .ensures, fits, ← up-end _ _ _ (l .loop .p) (l .loop .inv .0) (c .loop-test .left) ∙ ap (first _ 0) (sub-zero _)) in

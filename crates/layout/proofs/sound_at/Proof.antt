@@ -21,7 +21,7 @@ returns-2 c =
     let s = f .before in
     let i = s .before in
     let r = i .before in
-    rw (c .stands-well .ensures, k .keeps-row .ensures, ← i .base .ensures .0, sym (s .spare-zero .ensures) ∙ not-false _ (f .if1 .left), r .record .ensures, r .before .before .pre .1)
+    rw (c .may-stand .ensures, k .keeps-row .ensures, ← i .base .ensures .0, sym (s .spare-zero .ensures) ∙ not-false _ (f .if1 .left), r .record .ensures, r .before .before .pre .1)
 
 pub sound-at-spec : {M : Type 1} → statement M
 sound-at-spec =

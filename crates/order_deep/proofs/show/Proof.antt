@@ -8,7 +8,7 @@ use Rattle.order_deep.proofs.show.Tie as tie
 check-decl-identifiers-requires : tie.Need-check-decl-identifiers-requires
 check-decl-identifiers-requires c κs =
     let s = c .before .before .before .before .before in
-    (omega (arith, length-decode (s .args .t .now), s .pre .0), omega (arith, length-decode (s .args .t .now), s .pre .0, s .pre .1))
+    (omega (arith, length-decode (s .args .table .now), s .pre .0), omega (arith, length-decode (s .args .table .now), s .pre .0, s .pre .1))
 
 pub show-spec : {M : Type 1} → statement M
 show-spec =

@@ -50,13 +50,13 @@ returns-7 c =
 few : tie.Need-run-sizes-requires
 few c κs =
     let i = c .before .before in
-    i .before .pays .ensures (not-false _ (i .if2 .left))
+    i .before .is-large .ensures (not-false _ (i .if2 .left))
 
 pub run-spec : {M : Type 1} → statement M
 run-spec =
     tie.close
     (tie.spec
     check-enum-declarations-requires (λ c. search needs) returns (λ c κs. search needs) (λ c κs. search needs) (λ c. search needs) (λ c. search needs)
-    (λ c κs. (let i = c .before .before in i .before .pays .ensures (not-false _ (i .if2 .left)), inl refl)) (λ c κs. search needs) few (λ c κs. (let i = c .before .before in i .before .pays .ensures (not-false _ (i .if2 .left)), inr refl)) (λ c κs. search needs) (λ c κs. search needs)
+    (λ c κs. (let i = c .before .before in i .before .is-large .ensures (not-false _ (i .if2 .left)), inl refl)) (λ c κs. search needs) few (λ c κs. (let i = c .before .before in i .before .is-large .ensures (not-false _ (i .if2 .left)), inr refl)) (λ c κs. search needs) (λ c κs. search needs)
     (λ c. search needs) returns-3 (λ c. search needs) returns-4 (λ c. search needs) returns-5 (λ c. search needs) returns-6
     (λ c. search needs) returns-7 (λ c. search needs) (λ c. search needs))

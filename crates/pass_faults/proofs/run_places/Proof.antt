@@ -35,7 +35,7 @@ loop-holds c =
 note-at-requires : tie.Need-note-at-requires Inv-loop μ-loop
 note-at-requires c κs =
     let s = c .before .before .before .before .before .before .before .before .before .before .before .before in
-    (s .pre .0, omega (arith, length-decode (now (s .args .t))), s .pre .1)
+    (s .pre .0, omega (arith, length-decode (now (s .args .table))), s .pre .1)
 
 loop-less : tie.Need-loop-less Inv-loop μ-loop
 loop-less c = omega (arith, c .next-of2 .ensures .start)

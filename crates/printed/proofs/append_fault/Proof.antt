@@ -8,13 +8,13 @@ returns : tie.Need-returns
 returns c =
     let l = c .before .before in
     let i = l .before .before .before .before .before .before in
-    append-single (i .before .before .before .args .f) (i .if1 .taken) (l .append-list .ensures)
+    append-single (i .before .before .before .args .fault) (i .if1 .taken) (l .append-list .ensures)
 
 returns-2 : tie.Need-returns-2
 returns-2 c =
     let l = c .before .before in
     let i = l .before .before .before .before .before .before .before .before in
-    append-double (i .before .before .before .args .f) (i .if1 .left) (l .append-list2 .ensures)
+    append-double (i .before .before .before .args .fault) (i .if1 .left) (l .append-list2 .ensures)
 
 pub append-fault-spec : {M : Type 1} → statement M
 append-fault-spec =

@@ -7,14 +7,14 @@ use lib.ListN.{length}
 use denote.Ref.{now}
 use Rattle.rules.specs.Printed.{recordLine, recordLines}
 use Rattle.table.proofs.Laws.{length-decode, at-decode}
-use Rattle.printed.specs.Appended.{Appended}
+use Rattle.printed.specs.TextAppended.{TextAppended}
 use Rattle.printed.proofs.Laws.{recordLineAt, length-record, each-none, line-fits, append-each, each-done}
 use Rattle.printed.proofs.append_records.Statement.{statement}
 use Rattle.printed.proofs.append_records.Tie as tie
 
 abbrev Inv-loop : tie.InvT-loop
 Inv-loop text₀ at table n p₀ i₀ text p i =
-    Appended text₀ at (recordLines table i) text p × (length text ≡ length text₀) × (i ≤ n)
+    TextAppended text₀ at (recordLines table i) text p × (length text ≡ length text₀) × (i ≤ n)
 
 abbrev μ-loop : tie.MeasureT-loop
 μ-loop text₀ at table n p₀ i₀ text p i = n - i
@@ -33,7 +33,7 @@ unfolding recordLines
 append-record-requires c κs =
     let l = c .before .before .before in
     let s = l .before .before .before in
-    line-fits (recordLineAt (now (s .args .table))) 210 (s .args .n) (λ q. length-record _) (l .loop .i) (s .pre .0) (l .loop .inv .1) (l .loop .inv .0) (c .before .before .loop-test .taken)
+    line-fits (recordLineAt (now (s .args .table))) 210 (s .args .count) (λ q. length-record _) (l .loop .i) (s .pre .0) (l .loop .inv .1) (l .loop .inv .0) (c .before .before .loop-test .taken)
 
 loop-again : tie.Need-loop-again Inv-loop μ-loop
 unfolding recordLines
@@ -44,7 +44,7 @@ loop-again c =
     let l = t .before in
     let s = l .before .before .before in
     let e = r .«record» .ensures ∙ at-decode (now (s .args .table)) (l .loop .i) (omega (arith, length-decode (now (s .args .table)), s .pre .1, t .loop-test .taken)) in (
-      append-each (recordLineAt (now (s .args .table))) 210 (s .args .n) (λ q. length-record _) (l .loop .i) (s .pre .0) (l .loop .inv .1) (l .loop .inv .0) (t .loop-test .taken) (ap recordLine e) (a .append-record .ensures),
+      append-each (recordLineAt (now (s .args .table))) 210 (s .args .count) (λ q. length-record _) (l .loop .i) (s .pre .0) (l .loop .inv .1) (l .loop .inv .0) (t .loop-test .taken) (ap recordLine e) (a .append-record .ensures),
       search needs,
       search needs,
     )
@@ -54,7 +54,7 @@ unfolding recordLines
 returns c =
     let l = c .before in
     let s = l .before .before .before in
-    each-done (recordLineAt (now (s .args .table))) 210 (s .args .n) (λ q. length-record _) (l .loop .i) (s .pre .0) (l .loop .inv .1) (l .loop .inv .0) (l .loop .inv .2) (c .loop-test .left)
+    each-done (recordLineAt (now (s .args .table))) 210 (s .args .count) (λ q. length-record _) (l .loop .i) (s .pre .0) (l .loop .inv .1) (l .loop .inv .0) (l .loop .inv .2) (c .loop-test .left)
 
 pub append-records-spec : {M : Type 1} → statement M
 append-records-spec =

@@ -13,7 +13,7 @@ use borrow.Author.Tests.{le-ltb, lt-ltb}
 use Rattle.rules.specs.Choice.{if_then_else_}
 use Rattle.rules.specs.Bytes.{written}
 use Rattle.rules.specs.Printed.{decimals, decimal, listing, line}
-use Rattle.printed.specs.Appended.{Appended}
+use Rattle.printed.specs.TextAppended.{TextAppended}
 
 -- one after the other
 written-then : (b : List ℕ) (i : ℕ) (s t : List ℕ) → i ≤ length b → written (written b i s) (i + length s) t ≡ written b i (s ++ t)
@@ -28,21 +28,21 @@ written-then b i s t h =
     ∙ ap (λ (k : ℕ). take i b ++ (s ++ t) ++ drop k b) (sym m)
 
 -- nothing, one byte, and bytes written
-pub append-none : (b : List ℕ) (i : ℕ) → Appended b i [] b i
+pub append-none : (b : List ℕ) (i : ℕ) → TextAppended b i [] b i
 append-none b i = record { bytes = sym (rw (append-nil (take i b), add-zero i) (take-append-drop i b)); place = sym (add-zero i) }
 
-pub append-byte : (b : List ℕ) (i v : ℕ) → i < length b → Appended b i (v ∷ []) (set b i v) (i + 1)
+pub append-byte : (b : List ℕ) (i v : ℕ) → i < length b → TextAppended b i (v ∷ []) (set b i v) (i + 1)
 append-byte b i v h =
     record {
       bytes = set-split b i v h ∙ sym (append-snoc (take i b) v (drop (suc i) b)) ∙ ap (λ (k : ℕ). take i b ++ (v ∷ []) ++ drop k b) (sym (add-one i));
       place = refl;
     }
 
-pub append-bytes : (b : List ℕ) (i : ℕ) (s : List ℕ) {c : List ℕ} → c ≡ written b i s → Appended b i s c (i + length s)
+pub append-bytes : (b : List ℕ) (i : ℕ) (s : List ℕ) {c : List ℕ} → c ≡ written b i s → TextAppended b i s c (i + length s)
 append-bytes b i s e = record { bytes = e; place = refl }
 
 -- s, and then t
-pub append-then : {b c d : List ℕ} {i j k : ℕ} (s t : List ℕ) → i ≤ length b → Appended b i s c j → Appended c j t d k → Appended b i (s ++ t) d k
+pub append-then : {b c d : List ℕ} {i j k : ℕ} (s t : List ℕ) → i ≤ length b → TextAppended b i s c j → TextAppended c j t d k → TextAppended b i (s ++ t) d k
 append-then {b} {c} {d} {i} {j} {k} s t h x y =
     record {
       bytes = y .bytes ∙ ap (λ (l : List ℕ). written l j t) (x .bytes) ∙ ap (λ (n : ℕ). written (written b i s) n t) (x .place) ∙ written-then b i s t h;
@@ -95,40 +95,40 @@ length-listing [] = omega arith
 length-listing (n ∷ ns) = omega (arith, length-append (decimal n) (listing ns), length-decimal n, length-listing ns)
 
 -- a number: its only digit, or one more behind those of its tenth
-pub append-digit : (b : List ℕ) (i x : ℕ) → x < 10 → i < length b → Appended b i (decimal x) (set b i (48 + x)) (i + 1)
-append-digit b i x h g = subst (λ (s : List ℕ). Appended b i s (set b i (48 + x)) (i + 1)) (sym (one-digit x h)) (append-byte b i (48 + x) g)
+pub append-digit : (b : List ℕ) (i x : ℕ) → x < 10 → i < length b → TextAppended b i (decimal x) (set b i (48 + x)) (i + 1)
+append-digit b i x h g = subst (λ (s : List ℕ). TextAppended b i s (set b i (48 + x)) (i + 1)) (sym (one-digit x h)) (append-byte b i (48 + x) g)
 
 -- behind a number of 19 digits there is room for one more
-pub digit-fits : {b c : List ℕ} {i j y : ℕ} → y < 10 ^ 19 → i + 20 ≤ length b → length c ≡ length b → Appended b i (decimal y) c j → j < length c
+pub digit-fits : {b c : List ℕ} {i j y : ℕ} → y < 10 ^ 19 → i + 20 ≤ length b → length c ≡ length b → TextAppended b i (decimal y) c j → j < length c
 digit-fits {y = y} h room same upper = omega (arith, upper .place, length-short y h)
 
-pub append-last : {b c : List ℕ} {i j : ℕ} (x : ℕ) → x < 2 ^ 64 → i + 20 ≤ length b → length c ≡ length b → Appended b i (decimal (x / 10)) c j → 10 ≤ x → Appended b i (decimal x) (set c j (48 + x % 10)) (j + 1)
+pub append-last : {b c : List ℕ} {i j : ℕ} (x : ℕ) → x < 2 ^ 64 → i + 20 ≤ length b → length c ≡ length b → TextAppended b i (decimal (x / 10)) c j → 10 ≤ x → TextAppended b i (decimal x) (set c j (48 + x % 10)) (j + 1)
 append-last {b} {c} {i} {j} x h room same tenth g =
-    subst (λ (s : List ℕ). Appended b i s (set c j (48 + x % 10)) (j + 1)) (sym (last-digit x h g))
+    subst (λ (s : List ℕ). TextAppended b i s (set c j (48 + x % 10)) (j + 1)) (sym (last-digit x h g))
     (append-then (decimal (x / 10)) ((48 + x % 10) ∷ []) (omega arith) tenth (append-byte c j (48 + x % 10) (digit-fits (omega arith) room same tenth)))
 
 -- the numbers of a list, one after the other
-pub listing-none : (b : List ℕ) (i : ℕ) (ns : List ℕ) → Appended b i (listing (take 0 ns)) b i
+pub listing-none : (b : List ℕ) (i : ℕ) (ns : List ℕ) → TextAppended b i (listing (take 0 ns)) b i
 unfolding listing
 listing-none b i ns = append-none b i
 
-module _ {b c : List ℕ} {i j : ℕ} (ns : List ℕ) (k : ℕ) (room : i + 21 * length ns ≤ length b) (same : length c ≡ length b) (so-far : Appended b i (listing (take k ns)) c j) where
+module _ {b c : List ℕ} {i j : ℕ} (ns : List ℕ) (k : ℕ) (room : i + 21 * length ns ≤ length b) (same : length c ≡ length b) (so-far : TextAppended b i (listing (take k ns)) c j) where
   pub blank-fits : k < length ns → j + 21 ≤ length c
   blank-fits h = omega (arith, so-far .place, length-listing (take k ns), length-take k ns)
 
-  pub append-listed : k < length ns → {d : List ℕ} {m : ℕ} → Appended (set c j 32) (j + 1) (decimal (getD ns k 0)) d m → Appended b i (listing (take (k + 1) ns)) d m
+  pub append-listed : k < length ns → {d : List ℕ} {m : ℕ} → TextAppended (set c j 32) (j + 1) (decimal (getD ns k 0)) d m → TextAppended b i (listing (take (k + 1) ns)) d m
   append-listed h {d} {m} x =
-      subst (λ (s : List ℕ). Appended b i s d m) (sym (ap (λ (l : List ℕ). listing l) (ap (λ (n : ℕ). take n ns) (add-one k) ∙ take-suc ns k 0 h) ∙ listing-more (take k ns) (getD ns k 0)))
+      subst (λ (s : List ℕ). TextAppended b i s d m) (sym (ap (λ (l : List ℕ). listing l) (ap (λ (n : ℕ). take n ns) (add-one k) ∙ take-suc ns k 0 h) ∙ listing-more (take k ns) (getD ns k 0)))
       (append-then (listing (take k ns)) (32 ∷ decimal (getD ns k 0)) (omega arith) so-far
       (append-then (32 ∷ []) (decimal (getD ns k 0)) (omega (arith, blank-fits h)) (append-byte c j 32 (omega (arith, blank-fits h))) x))
 
-  pub listing-done : length ns ≤ k → Appended b i (listing ns) c j
-  listing-done h = subst (λ (l : List ℕ). Appended b i (listing l) c j) (take-all k ns h) so-far
+  pub listing-done : length ns ≤ k → TextAppended b i (listing ns) c j
+  listing-done h = subst (λ (l : List ℕ). TextAppended b i (listing l) c j) (take-all k ns h) so-far
 
 -- a line, from its first word or number and the rest
-pub append-line : {b c d : List ℕ} {i j m : ℕ} (w ns : List ℕ) → i ≤ length b → Appended b i w c j → Appended c j (listing ns ++ 10 ∷ []) d m → Appended b i (line w ns) d m
+pub append-line : {b c d : List ℕ} {i j m : ℕ} (w ns : List ℕ) → i ≤ length b → TextAppended b i w c j → TextAppended c j (listing ns ++ 10 ∷ []) d m → TextAppended b i (line w ns) d m
 append-line {b} {c} {d} {i} {j} {m} w ns h x y =
-    subst (λ (s : List ℕ). Appended b i s d m) (sym (append-assoc w (listing ns) (10 ∷ []))) (append-then w (listing ns ++ 10 ∷ []) h x y)
+    subst (λ (s : List ℕ). TextAppended b i s d m) (sym (append-assoc w (listing ns) (10 ∷ []))) (append-then w (listing ns ++ 10 ∷ []) h x y)
 
 -- how long a line is
 pub length-line : (w ns : List ℕ) → length (line w ns) ≤ length w + 21 * length ns + 1

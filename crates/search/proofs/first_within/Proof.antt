@@ -11,16 +11,16 @@ add-first : tie.Need-add-first
 add-first c =
     let d = c .before in
     let v = d .before .before in
-    omega (arith, nearest-below _ _ (d .d .given .0 .0) (sym (v .nearest-decl .ensures) ∙ d .d .given .1), v .before .before .fits .p)
+    omega (arith, nearest-below _ _ (d .d .given .0 .0) (sym (v .nearest .ensures) ∙ d .d .given .1), v .before .before .fits .place)
 
 returns : tie.Need-returns
 unfolding firstWithin firstAfter
 returns c =
-    let d = c .before .before in rw (← d .before .before .nearest-decl .ensures, d .d .given .1) (c .first .ensures)
+    let d = c .before .before in rw (← d .before .before .nearest .ensures, d .d .given .1) (c .first .ensures)
 
 returns-2 : tie.Need-returns-2
 unfolding firstWithin firstAfter
-returns-2 c = rw (← c .before .before .nearest-decl .ensures, c .enum-told .given .1)
+returns-2 c = rw (← c .before .before .nearest .ensures, c .enum-told .given .1)
 
 pub first-within-spec : {M : Type 1} → statement M
 first-within-spec =

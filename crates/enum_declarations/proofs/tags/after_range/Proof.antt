@@ -11,7 +11,7 @@ returns-2 : tie.Need-returns-2
 returns-2 c =
     let k = c .before in
     let s = k .before .before in
-    before-range (decode (now (s .args .t))) (s .args .p) (rw (← k .kind .ensures) (c .if1 .left)) ∙ s .pre .1
+    before-range (decode (now (s .args .table))) (s .args .place) (rw (← k .kind .ensures) (c .if1 .left)) ∙ s .pre .1
 
 pub after-range-spec : {M : Type 1} → statement M
 after-range-spec = tie.close (tie.spec (λ c κs. search needs) (λ c. search needs) (λ c. search needs) returns-2)

@@ -9,8 +9,8 @@ use Rattle.enum_declarations.proofs.tags.note_held.Tie as tie
 holders-requires : tie.Need-holders-requires
 holders-requires c κs =
     let s = c .before .before .before .before .before in
-    let rs = decode (now (s .args .t)) in
-    (search needs, search needs, bounds-ordered rs (s .args .d) (s .args .n) (s .args .m) (now (s .args .lows)) (now (s .args .highs)) (s .pre .2))
+    let rs = decode (now (s .args .table)) in
+    (search needs, search needs, bounds-ordered rs (s .args .decl) (s .args .tags) (s .args .ranges) (now (s .args .lows)) (now (s .args .highs)) (s .pre .2))
 
 returns : tie.Need-returns
 returns c =
@@ -19,9 +19,9 @@ returns c =
     let h = i .before in
     let a = h .before in
     let s = a .before .before .before .before .before in
-    let rs = decode (now (s .args .t)) in
-    let all = held-all rs (s .args .d) (s .args .n) (s .args .m) (now (s .args .lows)) (now (s .args .highs)) (s .pre .2) in
-    rw (← all (s .args .p), ← a .at .ensures, ← h .holders .ensures .0, ← i .single .ensures)
+    let rs = decode (now (s .args .table)) in
+    let all = held-all rs (s .args .decl) (s .args .tags) (s .args .ranges) (now (s .args .lows)) (now (s .args .highs)) (s .pre .2) in
+    rw (← all (s .args .place), ← a .at .ensures, ← h .holders .ensures .0, ← i .single .ensures)
     (n .note-times .ensures)
 
 pub note-held-spec : {M : Type 1} → statement M

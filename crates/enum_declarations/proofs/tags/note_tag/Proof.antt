@@ -16,9 +16,9 @@ note-held-requires c κs =
     let n = c .before .before .before in
     let s = n .before .before .before .before in
     let t = s .before .before .before .before .before .before .before .before in
-    let rs = decode (now (t .args .t)) in
-    let after = total-after _ _ (valueFaults rs 0 (s .scalar-max .result) (t .args .p)) (n .note-value .ensures) in
-    (search needs, omega (arith, value-few rs 0 (s .scalar-max .result) (t .args .p)), search needs)
+    let rs = decode (now (t .args .table)) in
+    let after = total-after _ _ (valueFaults rs 0 (s .scalar-max .result) (t .args .place)) (n .note-value .ensures) in
+    (search needs, omega (arith, value-few rs 0 (s .scalar-max .result) (t .args .place)), search needs)
 
 returns : tie.Need-returns
 returns c =
@@ -29,9 +29,9 @@ returns c =
     let s = k .before in
     let a = s .before in
     let t = a .before .before .before .before .before .before .before in
-    let rs = decode (now (t .args .t)) in
-    let both = noted-then _ (valueFaults rs 0 (s .scalar-max .result) (t .args .p)) (held rs (t .args .d) (t .args .n) (t .args .p)) in
-    let tag = tag-value rs (t .args .d) (t .args .n) (t .args .p) (sym (k .kind .ensures) ∙ m .match .keys1) in
+    let rs = decode (now (t .args .table)) in
+    let both = noted-then _ (valueFaults rs 0 (s .scalar-max .result) (t .args .place)) (held rs (t .args .decl) (t .args .tags) (t .args .place)) in
+    let tag = tag-value rs (t .args .decl) (t .args .tags) (t .args .place) (sym (k .kind .ensures) ∙ m .match .keys1) in
     rw (← tag, ← a .at .ensures, ← s .scalar-max .ensures) (both (o .note-value .ensures) (n .note-held .ensures))
 
 returns-2 : tie.Need-returns-2

@@ -10,14 +10,14 @@ note-found-requires-2 : tie.Need-note-found-requires-2
 note-found-requires-2 c κs =
     let n = c .before .before .before in
     let s = n .before .before .before in
-    omega (arith, total-after _ _ (findings (s .args .x)) (n .note-found .ensures), findings-few (s .args .x))
+    omega (arith, total-after _ _ (findings (s .args .first)) (n .note-found .ensures), findings-few (s .args .first))
 
 note-found-requires-3 : tie.Need-note-found-requires-3
 note-found-requires-3 c κs =
     let n = c .before .before .before in
     let o = n .before .before .before .before in
     let s = o .before .before .before in
-    omega (arith, total-after _ _ (findings (s .args .x)) (o .note-found .ensures), findings-few (s .args .x), total-after _ _ (findings (s .args .y)) (n .note-found2 .ensures), findings-few (s .args .y))
+    omega (arith, total-after _ _ (findings (s .args .first)) (o .note-found .ensures), findings-few (s .args .first), total-after _ _ (findings (s .args .second)) (n .note-found2 .ensures), findings-few (s .args .second))
 
 returns : tie.Need-returns
 returns c =
@@ -25,7 +25,7 @@ returns c =
     let o = n .before .before .before .before in
     let t = o .before .before .before .before in
     let s = t .before .before .before in
-    noted-then _ _ (findings (s .args .z)) (noted-then _ (findings (s .args .x)) (findings (s .args .y)) (t .note-found .ensures) (o .note-found2 .ensures)) (n .note-found3 .ensures)
+    noted-then _ _ (findings (s .args .third)) (noted-then _ (findings (s .args .first)) (findings (s .args .second)) (t .note-found .ensures) (o .note-found2 .ensures)) (n .note-found3 .ensures)
 
 pub note-three-spec : {M : Type 1} → statement M
 note-three-spec =

@@ -20,13 +20,13 @@ abbrev μ-loop : tie.MeasureT-loop
 loop-holds : tie.Need-loop-holds Inv-loop μ-loop
 loop-holds c =
     let s = c .before in
-    (count-none (λ x. leb (s .args .v) x) (now (s .args .s)), search needs, search needs)
+    (count-none (λ x. leb (s .args .value) x) (now (s .args .numbers)), search needs, search needs)
 
 loop-again : tie.Need-loop-again Inv-loop μ-loop
 loop-again c =
     let l = c .before .before .before in
     let s = l .before .before in
-    let more = count-more (λ x. leb (s .args .v) x) (now (s .args .s)) (l .loop .j) (search needs) in
+    let more = count-more (λ x. leb (s .args .value) x) (now (s .args .numbers)) (l .loop .j) (search needs) in
     (rw (more, ← l .loop .inv .0, c .one-if .ensures .0), search needs, search needs)
 
 returns : tie.Need-returns Inv-loop μ-loop
@@ -34,7 +34,7 @@ returns c =
     let l = c .before in
     let s = l .before .before in
     let e = le-antisymm (l .loop .inv .2) (c .loop-test .left) in
-    (l .loop .inv .0 ∙ ap (λ (j : ℕ). countOf (λ x. leb (s .args .v) x) (take j (now (s .args .s)))) e, search needs)
+    (l .loop .inv .0 ∙ ap (λ (j : ℕ). countOf (λ x. leb (s .args .value) x) (take j (now (s .args .numbers)))) e, search needs)
 
 pub at-least-spec : {M : Type 1} → statement M
 at-least-spec =

@@ -23,14 +23,14 @@ loop-again : tie.Need-loop-again Inv-loop μ-loop
 loop-again c =
     let l = c .before .before .before in
     let s = l .before in
-    let up = split-up leb leb-trans (s .args .v) (s .args .n) (now (s .args .s)) (search needs) (s .pre .1) (l .loop .inv .2) in
+    let up = split-up leb leb-trans (s .args .value) (s .args .count) (now (s .args .numbers)) (search needs) (s .pre .1) (l .loop .inv .2) in
     (search needs, search needs, up _ (search needs) (le-leb _ _ (c .if1 .taken)))
 
 loop-again-2 : tie.Need-loop-again-2 Inv-loop μ-loop
 loop-again-2 c =
     let l = c .before .before .before in
     let s = l .before in
-    let down = split-down leb leb-trans (s .args .v) (s .args .n) (now (s .args .s)) (search needs) (s .pre .1) (l .loop .inv .2) in
+    let down = split-down leb leb-trans (s .args .value) (s .args .count) (now (s .args .numbers)) (search needs) (s .pre .1) (l .loop .inv .2) in
     (search needs, search needs, down _ (search needs) (lt-leb _ _ (c .if1 .left)))
 
 returns : tie.Need-returns Inv-loop μ-loop

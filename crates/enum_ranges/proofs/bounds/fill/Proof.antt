@@ -34,7 +34,7 @@ loop-again c =
     let a = e .before in
     let l = a .before .before .before in
     let s = l .before .before .before .before .before in
-    let rs = decode (now (s .args .t)) in (
+    let rs = decode (now (s .args .table)) in (
       rw (e .lesser .ensures, a .at .ensures) (bounds-more (λ q. lesser (at rs q)) _ _ (l .loop .j) (search needs) (search needs) (l .loop .inv .0)),
       rw (c .greater .ensures, a .at .ensures) (bounds-more (λ q. greater (at rs q)) _ _ (l .loop .j) (search needs) (search needs) (l .loop .inv .1)),
       search needs,
@@ -46,7 +46,7 @@ returns : tie.Need-returns Inv-loop μ-loop
 returns c =
     let l = c .before in
     let s = l .before .before .before .before .before in
-    let e : l .loop .j ≡ s .args .m = omega (arith, l .loop .inv .2, c .loop-test .left) in
+    let e : l .loop .j ≡ s .args .count = omega (arith, l .loop .inv .2, c .loop-test .left) in
     (rw e at (l .loop .inv .0), rw e at (l .loop .inv .1))
 
 pub fill-spec : {M : Type 1} → statement M

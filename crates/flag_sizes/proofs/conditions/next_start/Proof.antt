@@ -13,14 +13,14 @@ returns c =
     let i = c .before in
     let k = i .before in
     let s = k .before .before in
-    omega (arith, start-decl (decode (now (s .args .t))) (s .args .p) (rw (← k .kind .ensures) (sym (i .is-decl .ensures) ∙ c .if1 .taken)))
+    omega (arith, start-decl (decode (now (s .args .table))) (s .args .place) (rw (← k .kind .ensures) (sym (i .is-decl .ensures) ∙ c .if1 .taken)))
 
 returns-2 : tie.Need-returns-2
 returns-2 c =
     let i = c .before in
     let k = i .before in
     let s = k .before .before in
-    omega (arith, start-other (decode (now (s .args .t))) (s .args .p) (s .pre .1) (rw (← k .kind .ensures) (sym (i .is-decl .ensures) ∙ c .if1 .left)))
+    omega (arith, start-other (decode (now (s .args .table))) (s .args .place) (s .pre .1) (rw (← k .kind .ensures) (sym (i .is-decl .ensures) ∙ c .if1 .left)))
 
 pub next-start-spec : {M : Type 1} → statement M
 next-start-spec =

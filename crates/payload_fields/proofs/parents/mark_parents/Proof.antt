@@ -34,7 +34,7 @@ returns : tie.Need-returns Inv-loop μ-loop
 returns c =
     let l = c .before .loop in
     let v = l .inv in
-    let z : l .c ≡ length (decode (c .before .before .before .before .before .args .t .now)) = omega (arith, v .1, v .2, c .loop-test .left) in
+    let z : l .c ≡ length (decode (c .before .before .before .before .before .args .table .now)) = omega (arith, v .1, v .2, c .loop-test .left) in
     rw z at (v .0)
 
 pub mark-parents-spec : {M : Type 1} → statement M

@@ -51,7 +51,7 @@ append-digits-returns-2 : (t : ℕ) → append-digits-lts.Need-returns-2 (
   append-digits.Post,
 ) (append-digits-at t) append-digits.Post
 append-digits-returns-2 t c =
-    append-last (c .before .before .before .before .before .before .args .x) (search needs) (search needs) (search needs) (c .before .before .append-digits .ensures) (search needs)
+    append-last (c .before .before .before .before .before .before .args .number) (search needs) (search needs) (search needs) (c .before .before .append-digits .ensures) (search needs)
 
 pub +append-digits-spec : {M : Type 1} → statement M
 +append-digits-spec = close μ-append-digits λ t. append-digits-lts.spec (

@@ -10,7 +10,7 @@ returns c =
     let r = c .before .before in
     let w = r .before .before .before .before in
     let a = w .before .before .before .before .before .args in
-    append-line (now (a .word)) (now (a .ns)) (search needs) (append-bytes _ _ _ (w .write .ensures)) (r .append-rest .ensures)
+    append-line (now (a .word)) (now (a .numbers)) (search needs) (append-bytes _ _ _ (w .write .ensures)) (r .append-rest .ensures)
 
 pub append-line-spec : {M : Type 1} → statement M
 append-line-spec =

@@ -5,19 +5,19 @@ use Prim.Native.Nat.{_-_}
 use mathlib.Core.Path.{_≡_, refl}
 use lib.ListN.{length, take, length-set}
 use Rattle.rules.specs.Printed.{listing}
-use Rattle.printed.specs.Appended.{Appended}
+use Rattle.printed.specs.TextAppended.{TextAppended}
 use Rattle.printed.proofs.text.Laws.{listing-none, blank-fits, append-listed, listing-done}
 use Rattle.printed.proofs.text.append_numbers.Statement.{statement}
 use Rattle.printed.proofs.text.append_numbers.Tie as tie
 
 abbrev Inv-loop : tie.InvT-loop
-Inv-loop text₀ at ns p₀ i₀ text p i = Appended text₀ at (listing (take i ns)) text p × (length text ≡ length text₀)
+Inv-loop text₀ at ns p₀ i₀ text p i = TextAppended text₀ at (listing (take i ns)) text p × (length text ≡ length text₀)
 
 abbrev μ-loop : tie.MeasureT-loop
 μ-loop text₀ at ns p₀ i₀ text p i = length ns - i
 
 loop-holds : tie.Need-loop-holds Inv-loop μ-loop
-loop-holds c = (listing-none _ _ (c .before .before .args .ns .now), refl)
+loop-holds c = (listing-none _ _ (c .before .before .args .numbers .now), refl)
 
 slice-write-text : tie.Need-slice-write-text Inv-loop μ-loop
 slice-write-text c =

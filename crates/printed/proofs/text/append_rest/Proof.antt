@@ -11,19 +11,19 @@ use Rattle.printed.proofs.text.append_rest.Tie as tie
 slice-write-text : tie.Need-slice-write-text
 slice-write-text c =
     let n = c .before .before in
-    omega (arith, n .append-numbers .ensures .place, n .append-numbers .kept .0, length-listing (n .before .before .before .before .args .ns .now))
+    omega (arith, n .append-numbers .ensures .place, n .append-numbers .kept .0, length-listing (n .before .before .before .before .args .numbers .now))
 
 add-result : tie.Need-add-result
 add-result c =
     let n = c .before .before in
-    omega (arith, n .append-numbers .ensures .place, n .append-numbers .kept .0, length-listing (n .before .before .before .before .args .ns .now))
+    omega (arith, n .append-numbers .ensures .place, n .append-numbers .kept .0, length-listing (n .before .before .before .before .args .numbers .now))
 
 returns : tie.Need-returns
 returns c =
     let n = c .before .before in
     let a = n .before .before .before .before .args in
-    append-then (listing (now (a .ns))) (10 ∷ []) (search needs) (n .append-numbers .ensures)
-    (append-byte _ _ 10 (omega (arith, n .append-numbers .ensures .place, n .append-numbers .kept .0, length-listing (a .ns .now))))
+    append-then (listing (now (a .numbers))) (10 ∷ []) (search needs) (n .append-numbers .ensures)
+    (append-byte _ _ 10 (omega (arith, n .append-numbers .ensures .place, n .append-numbers .kept .0, length-listing (a .numbers .now))))
 
 pub append-rest-spec : {M : Type 1} → statement M
 append-rest-spec =

@@ -17,11 +17,11 @@ abbrev μ-loop : tie.MeasureT-loop
 loop-holds : tie.Need-loop-holds Inv-loop μ-loop
 loop-holds c = (refl, refl, search needs)
 
-slice-aggregate-take-in : tie.Need-slice-aggregate-take-in Inv-loop μ-loop
-slice-aggregate-take-in c = sym (length-take-le _ _ (c .before .before .before .count .ensures .0 .0))
+slice-aggregate-append-input : tie.Need-slice-aggregate-append-input Inv-loop μ-loop
+slice-aggregate-append-input c = sym (length-take-le _ _ (c .before .before .before .count .ensures .0 .0))
 
-take-in-requires : tie.Need-take-in-requires Inv-loop μ-loop
-take-in-requires c κs =
+append-input-requires : tie.Need-append-input-requires Inv-loop μ-loop
+append-input-requires c κs =
     let o = c .before .before .before .before .before .before .before .before .before .before .before .loop in
     let n = c .before .before .before .count .ensures .0 .0 in
     (omega (arith, o .inv .0, c .before .before .before .before .before .before .before .before .before .before .before .before .before .before .pre .0), o .inv .2, omega (arith, length-take-le (c .before .before .before .count .result) (c .before .before .before .before .before .before .before .before .read .last .1 .0) n, n, c .before .before .before .before .before .before .before .before .read .kept .1 .0, o .inv .1, c .before .before .before .before .before .before .before .before .before .before .before .before .before .before .pre .1))
@@ -29,7 +29,7 @@ take-in-requires c κs =
 loop-again : tie.Need-loop-again Inv-loop μ-loop
 loop-again c =
     let o = c .before .before .before .before .before .before .before .before .before .before .before .before .before .before .loop in
-    (omega (arith, c .before .before .take-in .kept .0, o .inv .0), omega (arith, c .before .before .before .before .before .before .before .before .before .before .before .read .kept .1 .0, o .inv .1), c .before .before .take-in .ensures .1)
+    (omega (arith, c .before .before .append-input .kept .0, o .inv .0), omega (arith, c .before .before .before .before .before .before .before .before .before .before .before .read .kept .1 .0, o .inv .1), c .before .before .append-input .ensures .1)
 
 pub read-all-spec : {M : Type 1} → statement M
 read-all-spec =
@@ -37,5 +37,5 @@ read-all-spec =
     (tie.spec
     Inv-loop μ-loop loop-holds (λ c. search needs) (λ c κs. search needs) (λ c. search needs) (λ c. search needs)
     (λ c. search needs) (λ c κs. search needs) (λ c. search needs) (λ c. search needs) (λ c. search needs)
-    (λ c. search needs) slice-aggregate-take-in take-in-requires (λ c. search needs) loop-again (λ c. search needs)
+    (λ c. search needs) slice-aggregate-append-input append-input-requires (λ c. search needs) loop-again (λ c. search needs)
     (λ c. search needs) (λ c. search needs))

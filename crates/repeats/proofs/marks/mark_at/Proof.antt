@@ -8,7 +8,7 @@ use Rattle.repeats.proofs.marks.mark_at.Statement.{statement}
 use Rattle.repeats.proofs.marks.mark_at.Tie as tie
 
 returns : tie.Need-returns
-returns c = let s = c .before .before in same-default (now (s .args .marks)) (s .args .p) 0 1 (c .before .if1 .taken)
+returns c = let s = c .before .before in same-default (now (s .args .marks)) (s .args .place) 0 1 (c .before .if1 .taken)
 
 returns-2 : tie.Need-returns-2
 returns-2 c = sym (List·getD-eq-default (now (c .before .args .marks)) 1 (c .if1 .left))

@@ -15,7 +15,7 @@ returns-2 : tie.Need-returns-2
 returns-2 c =
     let o = c .before in
     let s = o .before .before in
-    none-past _ (s .args .x) _ (rw (o .count .ensures) at (c .if1 .left))
+    none-past _ (s .args .target) _ (rw (o .count .ensures) at (c .if1 .left))
 
 pub has-member-spec : {M : Type 1} → statement M
 has-member-spec =

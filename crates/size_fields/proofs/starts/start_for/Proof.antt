@@ -11,10 +11,10 @@ cast-if1 : tie.Need-cast-if1
 cast-if1 c = omega (arith, c .shared-slice-known .given (c .before .args .name % 4093))
 
 returns : tie.Need-returns
-returns c = let s = c .before .before in start-before (now (s .args .last)) (s .args .e) (s .args .name) (s .pre .0) (c .if1 .taken)
+returns c = let s = c .before .before in start-before (now (s .args .last)) (s .args .end) (s .args .name) (s .pre .0) (c .if1 .taken)
 
 returns-2 : tie.Need-returns-2
-returns-2 c = let s = c .before .before in start-at-end (now (s .args .last)) (s .args .e) (s .args .name) (s .pre .0) (c .if1 .left)
+returns-2 c = let s = c .before .before in start-at-end (now (s .args .last)) (s .args .end) (s .args .name) (s .pre .0) (c .if1 .left)
 
 pub start-for-spec : {M : Type 1} → statement M
 start-for-spec =

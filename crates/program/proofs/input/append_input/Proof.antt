@@ -1,4 +1,4 @@
--- `program::input::take_in` meets its contract: what stood for an input stands for it with the next bytes. Assumes nothing.
+-- `program::input::append_input` meets its contract: what stood for an input stands for it with the next bytes. Assumes nothing.
 use borrow.Author.Needs.{needs}
 use denote.Ref.{now}
 use mathlib.Core.Path.{sym, subst}
@@ -9,8 +9,8 @@ use lib.ListN.{length, take}
 use lib.Seq.{length-take-le}
 use Rattle.program.specs.Inputs.{StandsFor}
 use Rattle.program.proofs.input.Laws.{short-few, stands-more}
-use Rattle.program.proofs.input.take_in.Statement.{statement}
-use Rattle.program.proofs.input.take_in.Tie as tie
+use Rattle.program.proofs.input.append_input.Statement.{statement}
+use Rattle.program.proofs.input.append_input.Tie as tie
 
 slice-aggregate-write : tie.Need-slice-aggregate-write
 slice-aggregate-write c = sym (length-take-le _ _ (c .before .before .room-for .ensures .0))
@@ -28,8 +28,8 @@ returns c =
       omega (arith, e, short-few (s .args .total + length (now (s .args .next)))),
     )
 
-pub take-in-spec : {M : Type 1} → statement M
-take-in-spec =
+pub append-input-spec : {M : Type 1} → statement M
+append-input-spec =
     tie.close
     (tie.spec
     (λ c κs. search needs) slice-aggregate-write write-requires (λ c. search needs) (λ c κs. search needs)

@@ -1,4 +1,4 @@
--- `size_fields::starts::sweep` meets its contract: the searches from place p on may start as said. Assumes nothing.
+-- `size_fields::starts::fill_places` meets its contract: the searches from place p on may start as said. Assumes nothing.
 use borrow.Author.Needs.{needs}
 use native.Mathlib.Omega.{arith}
 use Prim.Native.Nat.{ℕ, _+_, _-_}
@@ -7,8 +7,8 @@ use lib.ListN.{length, length-replicate}
 use Rattle.rules.specs.Table.{decode}
 use Rattle.size_fields.specs.SizeStarts.{SizeStarts, Later}
 use Rattle.size_fields.proofs.starts.Laws.{later-none}
-use Rattle.size_fields.proofs.starts.sweep.Statement.{statement}
-use Rattle.size_fields.proofs.starts.sweep.Tie as tie
+use Rattle.size_fields.proofs.starts.fill_places.Statement.{statement}
+use Rattle.size_fields.proofs.starts.fill_places.Tie as tie
 
 abbrev Inv-loop : tie.InvT-loop
 Inv-loop t last₀ places₀ p₀ e₀ last places p e =
@@ -39,8 +39,8 @@ loop-again c =
     let v = m .before .before .before .before .loop .inv in
     (m .step .ensures .0, m .step .ensures .1, search needs, search needs, v .4)
 
-pub sweep-spec : {M : Type 1} → statement M
-sweep-spec =
+pub fill-places-spec : {M : Type 1} → statement M
+fill-places-spec =
     tie.close
     (tie.spec
     Inv-loop μ-loop (λ c κs. search needs) loop-holds (λ c. search needs) step-requires (λ c. search needs) loop-again

@@ -6,6 +6,6 @@ use lib.ListN.{length}
 use Rattle.rules.specs.Bytes.{written}
 
 -- s is written over a text from place i on; i′ is the place behind it
-pub record Appended (b : List ℕ) (i : ℕ) (s b′ : List ℕ) (i′ : ℕ) : Type 0 where
+pub record TextAppended (b : List ℕ) (i : ℕ) (s b′ : List ℕ) (i′ : ℕ) : Type 0 where
   pub bytes : b′ ≡ written b i s
   pub place : i′ ≡ i + length s

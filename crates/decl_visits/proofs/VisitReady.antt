@@ -28,8 +28,8 @@ use Rattle.faults.specs.Notes as notes
 use Rattle.faults.specs.Notes.{none}
 use Rattle.faults.proofs.Laws.{noted-then, noted-one, total-after}
 use Rattle.table.proofs.Laws.{first-in}
-use Rattle.decl_visits.specs.declared.Progress.{Progress}
-use Rattle.decl_visits.specs.Contract.{unvisitedCount, memberAt, Within, Held, Ready, Visited, Walked, Skipped}
+use Rattle.decl_visits.specs.declared.VisitProgress.{VisitProgress}
+use Rattle.decl_visits.specs.Contract.{unvisitedCount, memberAt, Within, Held, VisitReady, Visited, Walked, Skipped}
 use Rattle.decl_visits.proofs.Bounds.{Bounds, member-below, unvisited-opened, getD-any, resolve-bounds, walk-bounds, visit-bounds, fields-one, fields-none, fields-length, references-length}
 
 -- ---- how each step of the code changes the state that the slices hold
@@ -42,10 +42,10 @@ sets-more (x ∷ l) o i d =
     rw (← e) (sets-more l (set o i x) (suc i) d)
 
 -- what a fault more leaves: the places as they were, and the fault noted
-abbrev Noted : List Record → List ℕ → Progress → ℕ → ℕ → List ℕ → Progress → Type 0
+abbrev Noted : List Record → List ℕ → VisitProgress → ℕ → ℕ → List ℕ → VisitProgress → Type 0
 Noted rs f a c p f′ b = (b .listed ≡ a .listed) × (log (b .tally) f′ ≡ notes.noted (log (a .tally) f) (single c (at rs p)))
 
-module _ (rs : List Record) (o₀ f₀ : List ℕ) (s : State) (m o f : List ℕ) (a : Progress) (h : Held rs o₀ f₀ s m o f a) where
+module _ (rs : List Record) (o₀ f₀ : List ℕ) (s : State) (m o f : List ℕ) (a : VisitProgress) (h : Held rs o₀ f₀ s m o f a) where
   held-open : (d : ℕ) → Held rs o₀ f₀ (opened d s) (set m d 1) o f a
   held-open d = record {
     marks-are = ap (λ (l : List ℕ). set l d 1) (h .marks-are);
@@ -54,7 +54,7 @@ module _ (rs : List Record) (o₀ f₀ : List ℕ) (s : State) (m o f : List ℕ
     faults-are = h .faults-are;
   }
 
-  held-note : (c p : ℕ) (f′ : List ℕ) (b : Progress) → Noted rs f a c p f′ b → Held rs o₀ f₀ (noted c p s) m o f′ b
+  held-note : (c p : ℕ) (f′ : List ℕ) (b : VisitProgress) → Noted rs f a c p f′ b → Held rs o₀ f₀ (noted c p s) m o f′ b
   held-note c p f′ b e = record {
     marks-are = h .marks-are;
     places-are = h .places-are;
@@ -62,7 +62,7 @@ module _ (rs : List Record) (o₀ f₀ : List ℕ) (s : State) (m o f : List ℕ
     faults-are = rw map-append (noted-then (log none f₀) (map (faultOf rs) (s .faults)) (single c (at rs p) ∷ []) (h .faults-are) (e .1 ∙ noted-one (log (a .tally) f) (single c (at rs p))));
   }
 
-  held-list : (d : ℕ) (b : Progress) → b .listed ≡ a .listed + 1 → b .tally ≡ a .tally → Held rs o₀ f₀ (listed d s) (set m d 2) (set o (a .listed) d) f b
+  held-list : (d : ℕ) (b : VisitProgress) → b .listed ≡ a .listed + 1 → b .tally ≡ a .tally → Held rs o₀ f₀ (listed d s) (set m d 2) (set o (a .listed) d) f b
   held-list d b e n = record {
     marks-are = ap (λ (l : List ℕ). set l d 2) (h .marks-are);
     places-are = rw (h .listed-is, h .places-are, sets-more, zero-add);
@@ -73,8 +73,8 @@ module _ (rs : List Record) (o₀ f₀ : List ℕ) (s : State) (m o f : List ℕ
   held-total : a .tally .total ≡ length (s .faults)
   held-total = total-after none f₀ (map (faultOf rs) (s .faults)) (h .faults-are) ∙ zero-add _ ∙ length-map (s .faults) (faultOf rs)
 
-module _ (rs : List Record) (m o f : List ℕ) (a : Progress) where
-  relax : (x y x′ y′ : ℕ) → x′ ≤ x → y′ ≤ y → Ready rs m o f a x y → Ready rs m o f a x′ y′
+module _ (rs : List Record) (m o f : List ℕ) (a : VisitProgress) where
+  relax : (x y x′ y′ : ℕ) → x′ ≤ x → y′ ≤ y → VisitReady rs m o f a x y → VisitReady rs m o f a x′ y′
   relax x y x′ y′ p q h = record {
     state = h .state;
     places₀ = h .places₀;
@@ -90,7 +90,7 @@ module _ (rs : List Record) (m o f : List ℕ) (a : Progress) where
   open-unvisited : (d : ℕ) → d < length m → getD m d 0 ≡ 0 → unvisitedCount m ≡ suc (unvisitedCount (set m d 1))
   open-unvisited d l e = unvisited-opened m d (getD-any m d 2 0 l ∙ e)
 
-  open-ready : (d : ℕ) → d < length m → getD m d 0 ≡ 0 → Ready rs m o f a 1 0 → Ready rs (set m d 1) o f a 2049 1
+  open-ready : (d : ℕ) → d < length m → getD m d 0 ≡ 0 → VisitReady rs m o f a 1 0 → VisitReady rs (set m d 1) o f a 2049 1
   open-ready d l e h =
       let n = open-unvisited d l e in
       let r = h .room in
@@ -106,10 +106,10 @@ module _ (rs : List Record) (m o f : List ℕ) (a : Progress) where
         spare = omega arith;
       }
 
-  module _ (m′ o′ f′ : List ℕ) (a′ : Progress) where
+  module _ (m′ o′ f′ : List ℕ) (a′ : VisitProgress) where
     -- the slices now hold a state s′ that keeps the bounds
-    pub after : (x y z : ℕ) (h : Ready rs m o f a (x + z) y) (s′ : State) → Held rs (h .places₀) (h .buffer₀) s′ m′ o′ f′ a′ → Bounds (h .state) s′ z
-        → length o′ ≡ length o → Ready rs m′ o′ f′ a′ x y
+    pub after : (x y z : ℕ) (h : VisitReady rs m o f a (x + z) y) (s′ : State) → Held rs (h .places₀) (h .buffer₀) s′ m′ o′ f′ a′ → Bounds (h .state) s′ z
+        → length o′ ≡ length o → VisitReady rs m′ o′ f′ a′ x y
     after x y z h s′ e b l =
         let e₀ = ap unvisitedCount (h .held .marks-are) in
         let e₁ = ap unvisitedCount (e .marks-are) in
@@ -132,35 +132,35 @@ module _ (rs : List Record) (m o f : List ℕ) (a : Progress) where
           spare = omega arith;
         }
 
-    visit-made : (r : Reference) {x y : ℕ} (h : Ready rs m o f a x y) → Visited rs r m o f a m′ o′ f′ a′
+    visit-made : (r : Reference) {x y : ℕ} (h : VisitReady rs m o f a x y) → Visited rs r m o f a m′ o′ f′ a′
         → Held rs (h .places₀) (h .buffer₀) (resolve (visit (suc (unvisitedCount m)) (references rs)) r (h .state)) m′ o′ f′ a′
     visit-made r h v = v (suc (unvisitedCount m)) (h .places₀) (h .buffer₀) (h .state) (lt-suc-self (unvisitedCount m)) (h .held)
 
-    visit-bound : (r : Reference) {x y : ℕ} (h : Ready rs m o f a x y) → Bounds (h .state) (resolve (visit (suc (unvisitedCount m)) (references rs)) r (h .state)) 1
+    visit-bound : (r : Reference) {x y : ℕ} (h : VisitReady rs m o f a x y) → Bounds (h .state) (resolve (visit (suc (unvisitedCount m)) (references rs)) r (h .state)) 1
     visit-bound r h = resolve-bounds (visit (suc (unvisitedCount m)) (references rs)) (visit-bounds (references rs) (λ d. references-length rs d (h .few)) (suc (unvisitedCount m))) r (h .state)
 
-    after-visit : (r : Reference) (x y : ℕ) → Ready rs m o f a (x + 1) y → Visited rs r m o f a m′ o′ f′ a′ → length o′ ≡ length o → Ready rs m′ o′ f′ a′ x y
+    after-visit : (r : Reference) (x y : ℕ) → VisitReady rs m o f a (x + 1) y → Visited rs r m o f a m′ o′ f′ a′ → length o′ ≡ length o → VisitReady rs m′ o′ f′ a′ x y
     after-visit r x y h v l = after x y 1 h _ (visit-made r h v) (visit-bound r h) l
 
-    visit-falls : (r : Reference) {x y : ℕ} → Ready rs m o f a x y → Visited rs r m o f a m′ o′ f′ a′ → unvisitedCount m′ ≤ unvisitedCount m
+    visit-falls : (r : Reference) {x y : ℕ} → VisitReady rs m o f a x y → Visited rs r m o f a m′ o′ f′ a′ → unvisitedCount m′ ≤ unvisitedCount m
     visit-falls r h v =
         let e₀ = ap unvisitedCount (h .held .marks-are) in
         let e₁ = ap unvisitedCount (visit-made r h v .marks-are) in
         let b = visit-bound r h .falls in
         omega arith
 
-    walk-made : (p : ℕ) {x y : ℕ} (h : Ready rs m o f a x y) → Walked rs p m o f a m′ o′ f′ a′
+    walk-made : (p : ℕ) {x y : ℕ} (h : VisitReady rs m o f a x y) → Walked rs p m o f a m′ o′ f′ a′
         → Held rs (h .places₀) (h .buffer₀) (walk (visit (suc (unvisitedCount m)) (references rs)) (fieldReferences rs p (length rs - p)) (h .state)) m′ o′ f′ a′
     walk-made p h v = v (suc (unvisitedCount m)) (h .places₀) (h .buffer₀) (h .state) (lt-suc-self (unvisitedCount m)) (h .held)
 
-    walk-bound : (p : ℕ) {x y : ℕ} (h : Ready rs m o f a x y)
+    walk-bound : (p : ℕ) {x y : ℕ} (h : VisitReady rs m o f a x y)
         → Bounds (h .state) (walk (visit (suc (unvisitedCount m)) (references rs)) (fieldReferences rs p (length rs - p)) (h .state)) (length (fieldReferences rs p (length rs - p)))
     walk-bound p h = walk-bounds (visit (suc (unvisitedCount m)) (references rs)) (visit-bounds (references rs) (λ d. references-length rs d (h .few)) (suc (unvisitedCount m))) (fieldReferences rs p (length rs - p)) (h .state)
 
-    after-walk : (p x y : ℕ) → Ready rs m o f a (x + length (fieldReferences rs p (length rs - p))) y → Walked rs p m o f a m′ o′ f′ a′ → length o′ ≡ length o → Ready rs m′ o′ f′ a′ x y
+    after-walk : (p x y : ℕ) → VisitReady rs m o f a (x + length (fieldReferences rs p (length rs - p))) y → Walked rs p m o f a m′ o′ f′ a′ → length o′ ≡ length o → VisitReady rs m′ o′ f′ a′ x y
     after-walk p x y h v l = after x y (length (fieldReferences rs p (length rs - p))) h _ (walk-made p h v) (walk-bound p h) l
 
-    walk-falls : (p : ℕ) {x y : ℕ} → Ready rs m o f a x y → Walked rs p m o f a m′ o′ f′ a′ → unvisitedCount m′ ≤ unvisitedCount m
+    walk-falls : (p : ℕ) {x y : ℕ} → VisitReady rs m o f a x y → Walked rs p m o f a m′ o′ f′ a′ → unvisitedCount m′ ≤ unvisitedCount m
     walk-falls p h v =
         let e₀ = ap unvisitedCount (h .held .marks-are) in
         let e₁ = ap unvisitedCount (walk-made p h v .marks-are) in
@@ -248,14 +248,14 @@ visit-listed f k d s e g = rw (ne-eqb (markOf s d) 0 e, ne-eqb (markOf s d) 1 g,
 
 -- ---- the returns
 
-module _ (rs : List Record) (m o f : List ℕ) (a : Progress) where
+module _ (rs : List Record) (m o f : List ℕ) (a : VisitProgress) where
   visited-nowhere : Visited rs Nowhere m o f a m o f a
   visited-nowhere k o₀ f₀ s n h = h
 
-  visited-wrong : (c p : ℕ) (f′ : List ℕ) (b : Progress) → Noted rs f a c p f′ b → Visited rs (Wrong c p) m o f a m o f′ b
+  visited-wrong : (c p : ℕ) (f′ : List ℕ) (b : VisitProgress) → Noted rs f a c p f′ b → Visited rs (Wrong c p) m o f a m o f′ b
   visited-wrong c p f′ b e k o₀ f₀ s n h = held-note rs o₀ f₀ s m o f a h c p f′ b e
 
-  visited-open : (d : ℕ) (f′ : List ℕ) (b : Progress) → d < length m → getD m d 0 ≡ 1 → Noted rs f a 2 d f′ b → Visited rs (Follow d) m o f a m o f′ b
+  visited-open : (d : ℕ) (f′ : List ℕ) (b : VisitProgress) → d < length m → getD m d 0 ≡ 1 → Noted rs f a 2 d f′ b → Visited rs (Follow d) m o f a m o f′ b
   visited-open d f′ b l e g zero o₀ f₀ s n h = absurd (omega arith)
   visited-open d f′ b l e g (suc k) o₀ f₀ s n h =
       rw (visit-open (references rs) k d s (sym (ap (λ (x : List ℕ). getD x d 2) (h .marks-are)) ∙ getD-any m d 2 0 l ∙ e)) (held-note rs o₀ f₀ s m o f a h 2 d f′ b g)
@@ -267,9 +267,9 @@ module _ (rs : List Record) (m o f : List ℕ) (a : Progress) where
       rw (visit-listed (references rs) k d s (λ z. e (q ∙ z)) (λ z. g (q ∙ z))) h
 
   visited-new : (d : ℕ) → d < length m → getD m d 0 ≡ 0
-      → (m₁ o₁ f₁ : List ℕ) (b : Progress) → Walked rs (d + 1) (set m d 1) o f a m₁ o₁ f₁ b → unvisitedCount m₁ ≤ unvisitedCount (set m d 1)
-      → (m₂ o₂ f₂ : List ℕ) (g : Progress) → Visited rs (ownReference rs d) m₁ o₁ f₁ b m₂ o₂ f₂ g
-      → (z : Progress) → z .listed ≡ g .listed + 1 → z .tally ≡ g .tally
+      → (m₁ o₁ f₁ : List ℕ) (b : VisitProgress) → Walked rs (d + 1) (set m d 1) o f a m₁ o₁ f₁ b → unvisitedCount m₁ ≤ unvisitedCount (set m d 1)
+      → (m₂ o₂ f₂ : List ℕ) (g : VisitProgress) → Visited rs (ownReference rs d) m₁ o₁ f₁ b m₂ o₂ f₂ g
+      → (z : VisitProgress) → z .listed ≡ g .listed + 1 → z .tally ≡ g .tally
       → Visited rs (Follow d) m o f a (set m₂ d 2) (set o₂ (g .listed) d) f₂ z
   visited-new d l e m₁ o₁ f₁ b w n₁ m₂ o₂ f₂ g v z p q zero o₀ f₀ s n h = absurd (omega arith)
   visited-new d l e m₁ o₁ f₁ b w n₁ m₂ o₂ f₂ g v z p q (suc k) o₀ f₀ s n h =
@@ -279,7 +279,7 @@ module _ (rs : List Record) (m o f : List ℕ) (a : Progress) where
       (v k o₀ f₀ _ (omega arith) (w k o₀ f₀ (opened d s) (omega arith) (held-open rs o₀ f₀ s m o f a h d)))
       d z p q)
 
-  walked-skip : {p q : ℕ} {m′ o′ f′ : List ℕ} {b : Progress} → Skipped rs p q → Walked rs q m o f a m′ o′ f′ b → Walked rs p m o f a m′ o′ f′ b
+  walked-skip : {p q : ℕ} {m′ o′ f′ : List ℕ} {b : VisitProgress} → Skipped rs p q → Walked rs q m o f a m′ o′ f′ b → Walked rs p m o f a m′ o′ f′ b
   walked-skip i w k o₀ f₀ s n h = rw (i .same (visit k (references rs)) s) (w k o₀ f₀ s n h)
 
   pub walked-end : {p q : ℕ} → Skipped rs p q → memberAt rs q ≡ false → Walked rs p m o f a m o f a
@@ -287,8 +287,8 @@ module _ (rs : List Record) (m o f : List ℕ) (a : Progress) where
   walked-end {p} {q} i e = walked-skip i (λ k o₀ f₀ s n h. rw (fields-none rs q e) h)
 
   walked-more : (p : ℕ) → memberAt rs p ≡ true
-      → (m₁ o₁ f₁ : List ℕ) (b : Progress) → Visited rs (fieldReference rs p) m o f a m₁ o₁ f₁ b → unvisitedCount m₁ ≤ unvisitedCount m
-      → (m₂ o₂ f₂ : List ℕ) (z : Progress) → Walked rs (p + 1) m₁ o₁ f₁ b m₂ o₂ f₂ z
+      → (m₁ o₁ f₁ : List ℕ) (b : VisitProgress) → Visited rs (fieldReference rs p) m o f a m₁ o₁ f₁ b → unvisitedCount m₁ ≤ unvisitedCount m
+      → (m₂ o₂ f₂ : List ℕ) (z : VisitProgress) → Walked rs (p + 1) m₁ o₁ f₁ b m₂ o₂ f₂ z
       → Walked rs p m o f a m₂ o₂ f₂ z
   unfolding walk
   walked-more p e m₁ o₁ f₁ b v n₁ m₂ o₂ f₂ z w k o₀ f₀ s n h =
@@ -299,11 +299,11 @@ module _ (rs : List Record) (m o f : List ℕ) (a : Progress) where
 pub follow-in : (rs : List Record) {r : Reference} {d : ℕ} → r ≡ Follow d → Within (length rs) r → d < length rs
 follow-in rs e w = rw e at w
 
-module _ (rs : List Record) (m o f : List ℕ) (a : Progress) where
-  pub call-note : Ready rs m o f a 1 0 → a .tally .total + 1 < 2 ^ 64
+module _ (rs : List Record) (m o f : List ℕ) (a : VisitProgress) where
+  pub call-note : VisitReady rs m o f a 1 0 → a .tally .total + 1 < 2 ^ 64
   call-note h = let s = h .spare in omega arith
 
-  module _ {d : ℕ} (l : d < length rs) (h : Ready rs m o f a 1 0) where
+  module _ {d : ℕ} (l : d < length rs) (h : VisitReady rs m o f a 1 0) where
     pub mark-in : d < length m
     mark-in = let s = h .size in omega arith
 
@@ -312,17 +312,17 @@ module _ (rs : List Record) (m o f : List ℕ) (a : Progress) where
 
     module _ (e : getD m d 0 ≡ 0) where
       pub call-walk : {x : ℕ} → unvisitedCount m * 2048 ≡ x
-          → (unvisitedCount (set m d 1) * 2048 + 1 + (length rs - (d + 1)) < x) × Ready rs (set m d 1) o f a (length rs - (d + 1)) 0
+          → (unvisitedCount (set m d 1) * 2048 + 1 + (length rs - (d + 1)) < x) × VisitReady rs (set m d 1) o f a (length rs - (d + 1)) 0
       call-walk q =
           let n = open-unvisited rs m o f a d mark-in e in
           let w = h .few in
           (omega arith, relax rs (set m d 1) o f a 2049 1 (length rs - (d + 1)) 0 (omega arith) (omega arith) (open-ready rs m o f a d mark-in e h))
 
-      module _ {m₁ o₁ f₁ : List ℕ} {b : Progress} (w : Walked rs (d + 1) (set m d 1) o f a m₁ o₁ f₁ b) (lo : length o₁ ≡ length o) where
+      module _ {m₁ o₁ f₁ : List ℕ} {b : VisitProgress} (w : Walked rs (d + 1) (set m d 1) o f a m₁ o₁ f₁ b) (lo : length o₁ ≡ length o) where
         walked-falls : unvisitedCount m₁ ≤ unvisitedCount (set m d 1)
         walked-falls = walk-falls rs (set m d 1) o f a m₁ o₁ f₁ b (d + 1) (open-ready rs m o f a d mark-in e h) w
 
-        walked-ready : Ready rs m₁ o₁ f₁ b 1 1
+        walked-ready : VisitReady rs m₁ o₁ f₁ b 1 1
         walked-ready =
             let n = fields-length rs (d + 1) (length rs - (d + 1)) in
             let y = h .few in
@@ -331,13 +331,13 @@ module _ (rs : List Record) (m o f : List ℕ) (a : Progress) where
             w lo
 
         pub call-own : {q : Reference} {x : ℕ} → q ≡ ownReference rs d → unvisitedCount m * 2048 ≡ x
-            → (unvisitedCount m₁ * 2048 < x) × (Within (length rs) q × Ready rs m₁ o₁ f₁ b 1 0)
+            → (unvisitedCount m₁ * 2048 < x) × (Within (length rs) q × VisitReady rs m₁ o₁ f₁ b 1 0)
         call-own q y =
             let n = open-unvisited rs m o f a d mark-in e in
             let k = walked-falls in
             (omega arith, (rw q (within-own rs d), relax rs m₁ o₁ f₁ b 1 1 1 0 (omega arith) (omega arith) walked-ready))
 
-        module _ {q : Reference} (qe : q ≡ ownReference rs d) {m₂ o₂ f₂ : List ℕ} {g : Progress} (v : Visited rs q m₁ o₁ f₁ b m₂ o₂ f₂ g) (lo₂ : length o₂ ≡ length o₁) where
+        module _ {q : Reference} (qe : q ≡ ownReference rs d) {m₂ o₂ f₂ : List ℕ} {g : VisitProgress} (v : Visited rs q m₁ o₁ f₁ b m₂ o₂ f₂ g) (lo₂ : length o₂ ≡ length o₁) where
           pub call-list : (d < length m₂) × (d < 65536) × (g .listed < length o₂)
           call-list =
               let y = after-visit rs m₁ o₁ f₁ b m₂ o₂ f₂ g q 0 1 walked-ready v lo₂ in
@@ -346,71 +346,71 @@ module _ (rs : List Record) (m o f : List ℕ) (a : Progress) where
               let n = y .few in
               (omega arith, omega arith, omega arith)
 
-          pub ret-new : {m₃ o₃ : List ℕ} {z : Progress}
+          pub ret-new : {m₃ o₃ : List ℕ} {z : VisitProgress}
               → (z .listed ≡ g .listed + 1) × (z .tally ≡ g .tally) × (m₃ ≡ set m₂ d 2) × (o₃ ≡ set o₂ (g .listed) d)
               → Visited rs (Follow d) m o f a m₃ o₃ f₂ z
           ret-new {m₃} {o₃} {z} p =
               rw (p .2, p .3)
               (visited-new rs m o f a d mark-in e m₁ o₁ f₁ b w walked-falls m₂ o₂ f₂ g (rw qe at v) z (p .0) (p .1))
 
-    pub ret-open : {f′ : List ℕ} {z : Progress} → getD m d 0 ≡ 1 → Noted rs f a 2 d f′ z → Visited rs (Follow d) m o f a m o f′ z
+    pub ret-open : {f′ : List ℕ} {z : VisitProgress} → getD m d 0 ≡ 1 → Noted rs f a 2 d f′ z → Visited rs (Follow d) m o f a m o f′ z
     ret-open {f′} {z} e p = visited-open rs m o f a d f′ z mark-in e p
 
     pub ret-listed : ¬ (getD m d 0 ≡ 0) → ¬ (getD m d 0 ≡ 1) → Visited rs (Follow d) m o f a m o f a
     ret-listed e e′ = visited-listed rs m o f a d mark-in e e′
 
-  pub ret-follow : {r : Reference} {d : ℕ} {m′ o′ f′ : List ℕ} {z : Progress} → r ≡ Follow d → Visited rs (Follow d) m o f a m′ o′ f′ z → Visited rs r m o f a m′ o′ f′ z
+  pub ret-follow : {r : Reference} {d : ℕ} {m′ o′ f′ : List ℕ} {z : VisitProgress} → r ≡ Follow d → Visited rs (Follow d) m o f a m′ o′ f′ z → Visited rs r m o f a m′ o′ f′ z
   ret-follow re v = rw re v
 
   pub ret-nowhere : {r : Reference} → r ≡ Nowhere → Visited rs r m o f a m o f a
   ret-nowhere re = rw re (visited-nowhere rs m o f a)
 
-  pub ret-wrong : {r : Reference} {c p : ℕ} {f′ : List ℕ} {z : Progress} → r ≡ Wrong c p → Noted rs f a c p f′ z → Visited rs r m o f a m o f′ z
+  pub ret-wrong : {r : Reference} {c p : ℕ} {f′ : List ℕ} {z : VisitProgress} → r ≡ Wrong c p → Noted rs f a c p f′ z → Visited rs r m o f a m o f′ z
   ret-wrong {r} {c} {p} {f′} {z} re e = rw re (visited-wrong rs m o f a c p f′ z e)
 
   -- the first field from p on that may refer to something stands at q
-  module _ {p q : ℕ} (i : Skipped rs p q) (here : memberAt rs q ≡ true) (h : Ready rs m o f a (length rs - p) 0) where
-    field-ready : Ready rs m o f a (length rs - (q + 1) + 1) 0
+  module _ {p q : ℕ} (i : Skipped rs p q) (here : memberAt rs q ≡ true) (h : VisitReady rs m o f a (length rs - p) 0) where
+    field-ready : VisitReady rs m o f a (length rs - (q + 1) + 1) 0
     field-ready =
         let l = member-below rs q here in
         let n = i .on in
         relax rs m o f a (length rs - p) 0 (length rs - (q + 1) + 1) 0 (omega arith) (omega arith) h
 
-    visit-ready : Ready rs m o f a 1 0
+    visit-ready : VisitReady rs m o f a 1 0
     visit-ready = relax rs m o f a (length rs - (q + 1) + 1) 0 1 0 (omega arith) (omega arith) field-ready
 
     pub call-field : {r : Reference} {x : ℕ} → r ≡ fieldReference rs q → unvisitedCount m * 2048 + 1 + (length rs - p) ≡ x
-        → (unvisitedCount m * 2048 < x) × (Within (length rs) r × Ready rs m o f a 1 0)
+        → (unvisitedCount m * 2048 < x) × (Within (length rs) r × VisitReady rs m o f a 1 0)
     call-field e y = (omega arith, (rw e (within-field rs q), visit-ready))
 
-    module _ {r : Reference} (re : r ≡ fieldReference rs q) {m₁ o₁ f₁ : List ℕ} {b : Progress} (v : Visited rs r m o f a m₁ o₁ f₁ b) (lo : length o₁ ≡ length o) where
+    module _ {r : Reference} (re : r ≡ fieldReference rs q) {m₁ o₁ f₁ : List ℕ} {b : VisitProgress} (v : Visited rs r m o f a m₁ o₁ f₁ b) (lo : length o₁ ≡ length o) where
       pub call-rest : {x : ℕ} → unvisitedCount m * 2048 + 1 + (length rs - p) ≡ x
-          → (unvisitedCount m₁ * 2048 + 1 + (length rs - (q + 1)) < x) × Ready rs m₁ o₁ f₁ b (length rs - (q + 1)) 0
+          → (unvisitedCount m₁ * 2048 + 1 + (length rs - (q + 1)) < x) × VisitReady rs m₁ o₁ f₁ b (length rs - (q + 1)) 0
       call-rest y =
           let l = member-below rs q here in
           let n = i .on in
           let w = visit-falls rs m o f a m₁ o₁ f₁ b r visit-ready v in
           (omega arith, after-visit rs m o f a m₁ o₁ f₁ b r (length rs - (q + 1)) 0 field-ready v lo)
 
-      pub ret-more : {m₂ o₂ f₂ : List ℕ} {z : Progress} → Walked rs (q + 1) m₁ o₁ f₁ b m₂ o₂ f₂ z → Walked rs p m o f a m₂ o₂ f₂ z
+      pub ret-more : {m₂ o₂ f₂ : List ℕ} {z : VisitProgress} → Walked rs (q + 1) m₁ o₁ f₁ b m₂ o₂ f₂ z → Walked rs p m o f a m₂ o₂ f₂ z
       ret-more {m₂} {o₂} {f₂} {z} w =
           walked-skip rs m o f a i
           (walked-more rs m o f a q here m₁ o₁ f₁ b (rw re at v) (visit-falls rs m o f a m₁ o₁ f₁ b r visit-ready v) m₂ o₂ f₂ z w)
 
 -- where the arms of a match on r meet, it is taken up, and the slices are as long as they were
-pub record Step (rs : List Record) (r : Reference) (m o f : List ℕ) (a : Progress) (m′ o′ f′ : List ℕ) (a′ : Progress) : Type 0 where
+pub record Step (rs : List Record) (r : Reference) (m o f : List ℕ) (a : VisitProgress) (m′ o′ f′ : List ℕ) (a′ : VisitProgress) : Type 0 where
   pub made : Visited rs r m o f a m′ o′ f′ a′
   pub marks-long : length m′ ≡ length m
   pub places-long : length o′ ≡ length o
   pub buffer-long : length f′ ≡ length f
 
-module _ {rs : List Record} {m o f : List ℕ} {a : Progress} {m₁ o₁ f₁ m₂ o₂ f₂ : List ℕ} {b b₂ : Progress} (me : m₁ ≡ m₂) (oe : o₁ ≡ o₂) (fe : f₁ ≡ f₂) (be : b ≡ b₂) where
+module _ {rs : List Record} {m o f : List ℕ} {a : VisitProgress} {m₁ o₁ f₁ m₂ o₂ f₂ : List ℕ} {b b₂ : VisitProgress} (me : m₁ ≡ m₂) (oe : o₁ ≡ o₂) (fe : f₁ ≡ f₂) (be : b ≡ b₂) where
   pub step-follow : {r : Reference} {e : ℕ} → r ≡ Follow e → Visited rs (Follow e) m o f a m₂ o₂ f₂ b₂ → length m₂ ≡ length m → length o₂ ≡ length o → length f₂ ≡ length f
       → Step rs r m o f a m₁ o₁ f₁ b
   step-follow re v lm lo lf = rw (re, me, oe, fe, be) (record { made = v; marks-long = lm; places-long = lo; buffer-long = lf })
 
-module _ {rs : List Record} {m o f : List ℕ} {a : Progress} {m₁ o₁ f₁ : List ℕ} {b : Progress} (me : m₁ ≡ m) (oe : o₁ ≡ o) where
-  pub step-wrong : {r : Reference} {c p : ℕ} {f₂ : List ℕ} {b₂ : Progress} → f₁ ≡ f₂ → b ≡ b₂ → r ≡ Wrong c p → Noted rs f a c p f₂ b₂ → length f₂ ≡ length f
+module _ {rs : List Record} {m o f : List ℕ} {a : VisitProgress} {m₁ o₁ f₁ : List ℕ} {b : VisitProgress} (me : m₁ ≡ m) (oe : o₁ ≡ o) where
+  pub step-wrong : {r : Reference} {c p : ℕ} {f₂ : List ℕ} {b₂ : VisitProgress} → f₁ ≡ f₂ → b ≡ b₂ → r ≡ Wrong c p → Noted rs f a c p f₂ b₂ → length f₂ ≡ length f
       → Step rs r m o f a m₁ o₁ f₁ b
   step-wrong {r} fe be re n lf = rw (me, oe, fe, be) (record { made = ret-wrong rs m o f a re n; marks-long = refl; places-long = refl; buffer-long = lf })
 
