@@ -2,7 +2,7 @@
 use mathlib.Core.Path.{_≡_}
 use mathlib.Core.List.{List, [], _∷_, _++_, List·Memᴰ}
 use Prim.Native.Nat.{ℕ, _+_, _*_, _<_, _≤_}
-use lib.ListN.{length, take, drop}
+use lib.ListN.{length, take, drop, replicate}
 use Rattle.rules.specs.Table.{decode}
 use Rattle.rules.specs.Bytes.{written}
 use Rattle.rules.specs.Places.{memberCount}
@@ -10,6 +10,7 @@ use Rattle.rules.specs.Faults.{log, logged}
 use Rattle.rules.specs.DeclIdentifiers.{pass2, order, ordered, allRecords}
 use Rattle.rules.specs.Ordering.{Accepts}
 use Rattle.rules.specs.declared.Record.{Record}
+use Rattle.declarations.specs.Starts.{Starts}
 use Rattle.decl_order.specs.declared.OrderResult.{OrderResult}
 
 -- the bytes of the declarations at these places, in this order, unchanged
@@ -37,3 +38,8 @@ pub record DeclIdentifiersChecked (t buffer out buffer′ out′ : List ℕ) (r 
   pub faults : log (r .tally) buffer′ ≡ logged buffer (pass2 (decode t))
   pub accepted : Accepts (decode t) → ListedAtStart t out out′ (r .records)
   pub refused : ¬ (Accepts (decode t)) → (r .records ≡ 0) × (out′ ≡ out)
+
+-- what is asked where the declarations are visited and copied: no place is marked, and there is room for places and records
+abbrev pub VisitingAll : List Record → List ℕ → List ℕ → List ℕ → List ℕ → Type 0
+VisitingAll rs starts marks places out =
+    (length rs ≤ 1600) × (marks ≡ replicate (length rs) 0) × (length rs ≤ length places) × (40 * length rs ≤ length out) × Starts rs starts

@@ -7,14 +7,13 @@ use search::first;
 use table::NO_PLACE;
 use table::REMAINDERS;
 ghost use mathlib.Core.Path.{_≡_};
-ghost use Prim.Native.Nat.{_+_, _*_, _≤_, _<_};
-ghost use lib.ListN.{length, take, replicate};
+ghost use Prim.Native.Nat.{_*_, _≤_};
+ghost use lib.ListN.{length, take};
 ghost use Rattle.rules.specs.Table.{decode};
 ghost use Rattle.rules.specs.Bytes.{written};
-ghost use Rattle.rules.specs.Places.{memberCount};
 ghost use Rattle.rules.specs.DeclIdentifiers.{allRecords};
 ghost use Rattle.declarations.specs.Starts.{Starts};
-ghost use Rattle.decl_order.specs.Contract.{allBytes, Placed, DeclIdentifiersChecked};
+ghost use Rattle.decl_order.specs.Contract.{allBytes, Placed, DeclIdentifiersChecked, VisitingAll};
 
 // How many records are listed, and the faults found.
 pub struct OrderResult {
@@ -48,7 +47,7 @@ fn order_with(
     buffer: &mut [u8],
     out: &mut [u8],
 ) -> OrderResult
-    requires { ⌜ (length (decode (now table)) ≤ 1600) × (now marks ≡ replicate (length (decode (now table))) 0) × (length (decode (now table)) ≤ length (now places)) × (40 * length (decode (now table)) ≤ length (now out)) × Starts (decode (now table)) (now starts) ⌝ }
+    requires { ⌜ VisitingAll (decode (now table)) (now starts) (now marks) (now places) (now out) ⌝ }
     ensures { λ r. ⌜ DeclIdentifiersChecked (now (table .entry)) (now (buffer .entry)) (now (out .entry)) (now (buffer .exit)) (now (out .exit)) r ⌝ }
 {
     let a = decl_visits::visit_all(table, starts, marks, places, buffer);

@@ -12,13 +12,11 @@ ghost use mathlib.Core.List.{[]};
 ghost use mathlib.Core.Bool.{false};
 ghost use lib.ListN.{length};
 ghost use Rattle.rules.specs.Table.{decode};
-ghost use Rattle.rules.specs.Places.{memberCount};
 ghost use Rattle.rules.specs.Faults.{log, logged};
 ghost use Rattle.rules.specs.EnumDeclarations.{tagsFaults, enumFaults, pass4At, pass4};
 ghost use Rattle.faults.specs.Notes.{notedAll};
-ghost use Rattle.repeats.specs.Marks.{Marked};
 ghost use Rattle.enum_ranges.specs.Bounds.{Bounds};
-ghost use Rattle.repeats.specs.declared.marks.Key.the-variants.{TagNames, TagValues};
+ghost use Rattle.enum_declarations.specs.Enums.{TagsMarked, Prepared};
 
 // The tags of the enum at `decl`, which has `tags` of them. The first `ranges` numbers are the bounds of its ranges.
 fn note_tags(
@@ -33,7 +31,7 @@ fn note_tags(
     tally: Tally,
     buffer: &mut [u8],
 ) -> Tally
-    requires { ⌜ (decl + 1 + tags ≤ 1600) × (tally .total + 3000000 < 2 ^ 64) × Bounds (decode (now table)) decl tags ranges (now lows) (now highs) × Marked (decode (now table)) TagNames (now names) × Marked (decode (now table)) TagValues (now values) ⌝ }
+    requires { ⌜ (decl + 1 + tags ≤ 1600) × (tally .total + 3000000 < 2 ^ 64) × Bounds (decode (now table)) decl tags ranges (now lows) (now highs) × TagsMarked (decode (now table)) (now names) (now values) ⌝ }
     ensures { λ r. ⌜ log r (now (buffer .exit)) ≡ notedAll (log tally (now (buffer .entry))) (tagsFaults (decode (now (table .entry))) decl tags) ⌝ }
 {
     let mut kept = tally;
@@ -74,7 +72,7 @@ fn note_enum(
     tally: Tally,
     buffer: &mut [u8],
 ) -> Tally
-    requires { ⌜ (decl + 1 + tags ≤ 1600) × (1600 ≤ length (now places)) × (1600 ≤ length (now lows)) × (1600 ≤ length (now highs)) × (tally .total + 4000000 < 2 ^ 64) × Marked (decode (now table)) TagNames (now names) × Marked (decode (now table)) TagValues (now values) ⌝ }
+    requires { ⌜ (decl + 1 + tags ≤ 1600) × (tally .total + 4000000 < 2 ^ 64) × Prepared (decode (now table)) (now names) (now values) (now places) (now lows) (now highs) ⌝ }
     ensures { λ r. ⌜ log r (now (buffer .exit)) ≡ notedAll (log tally (now (buffer .entry))) (enumFaults (decode (now (table .entry))) decl tags) ⌝ }
 {
     let m = enum_ranges::arrange(table, decl, tags, places, lows, highs);
@@ -105,7 +103,7 @@ fn note_place(
     tally: Tally,
     buffer: &mut [u8],
 ) -> Tally
-    requires { ⌜ (decl < length (decode (now table))) × (length (decode (now table)) ≤ 1600) × (1600 ≤ length (now places)) × (1600 ≤ length (now lows)) × (1600 ≤ length (now highs)) × (tally .total + 4000000 < 2 ^ 64) × Marked (decode (now table)) TagNames (now names) × Marked (decode (now table)) TagValues (now values) ⌝ }
+    requires { ⌜ (decl < length (decode (now table))) × (length (decode (now table)) ≤ 1600) × (tally .total + 4000000 < 2 ^ 64) × Prepared (decode (now table)) (now names) (now values) (now places) (now lows) (now highs) ⌝ }
     ensures { λ r. ⌜ log r (now (buffer .exit)) ≡ notedAll (log tally (now (buffer .entry))) (pass4At (decode (now (table .entry))) decl) ⌝ }
 {
     if table::kind(table, decl) != kinds::ENUM {
@@ -135,7 +133,7 @@ fn note_enums(
     highs: &mut [u64],
     buffer: &mut [u8],
 ) -> Tally
-    requires { ⌜ (length (decode (now table)) ≤ 1600) × (1600 ≤ length (now places)) × (1600 ≤ length (now lows)) × (1600 ≤ length (now highs)) × Marked (decode (now table)) TagNames (now names) × Marked (decode (now table)) TagValues (now values) ⌝ }
+    requires { ⌜ (length (decode (now table)) ≤ 1600) × Prepared (decode (now table)) (now names) (now values) (now places) (now lows) (now highs) ⌝ }
     ensures { λ r. ⌜ log r (now (buffer .exit)) ≡ logged (now (buffer .entry)) (pass4 (decode (now (table .entry)))) ⌝ }
 {
     let n = table::count(table);

@@ -22,9 +22,10 @@ ghost use Rattle.rules.specs.Faults.{log};
 ghost use Rattle.rules.specs.EnumDeclarations.{rangeFound, valueFaults, held, rangeFaults, defaultFaults, innerFaults, tagFaults};
 ghost use Rattle.faults.specs.Notes.{findings, notedAll};
 ghost use Rattle.repeats.specs.Marks.{Marked};
-ghost use Rattle.repeats.specs.declared.marks.Key.the-variants.{TagNames, TagValues};
+ghost use Rattle.repeats.specs.declared.marks.Key.the-variants.{TagNames};
 ghost use Rattle.enum_ranges.specs.Bounds.{Bounds};
 ghost use Rattle.enum_declarations.specs.Before.{rangeBefore};
+ghost use Rattle.enum_declarations.specs.Enums.{TagsMarked, CheckingTag};
 
 // The range that a search found.
 fn range_found(table: &[u8], found: Found) -> Record
@@ -74,7 +75,7 @@ fn note_value(
     tally: Tally,
     buffer: &mut [u8],
 ) -> Tally
-    requires { ⌜ (tally .total + 4 < 2 ^ 64) × Marked (decode (now table)) TagNames (now names) × Marked (decode (now table)) TagValues (now values) ⌝ }
+    requires { ⌜ (tally .total + 4 < 2 ^ 64) × TagsMarked (decode (now table)) (now names) (now values) ⌝ }
     ensures { λ r. ⌜ log r (now (buffer .exit)) ≡ notedAll (log tally (now (buffer .entry))) (valueFaults (decode (now (table .entry))) low high place) ⌝ }
 {
     let r = records::at(table, place);
@@ -193,7 +194,7 @@ fn note_inner(
     tally: Tally,
     buffer: &mut [u8],
 ) -> Tally
-    requires { ⌜ (tally .total + 4 < 2 ^ 64) × Marked (decode (now table)) TagNames (now names) × Marked (decode (now table)) TagValues (now values) × (rangeBefore (decode (now table)) place ≡ rangeBefore (decode (now table)) after) ⌝ }
+    requires { ⌜ (tally .total + 4 < 2 ^ 64) × (rangeBefore (decode (now table)) place ≡ rangeBefore (decode (now table)) after) × TagsMarked (decode (now table)) (now names) (now values) ⌝ }
     ensures { λ r. ⌜ log r (now (buffer .exit)) ≡ notedAll (log tally (now (buffer .entry))) (innerFaults (decode (now (table .entry))) place) ⌝ }
 {
     let r = range_found(table, search::nearest(table, Target::Range, after));
@@ -235,7 +236,7 @@ pub fn note_tag(
     tally: Tally,
     buffer: &mut [u8],
 ) -> Tally
-    requires { ⌜ (tags ≤ 1600) × (tally .total + 1604 < 2 ^ 64) × Bounds (decode (now table)) decl tags ranges (now lows) (now highs) × Marked (decode (now table)) TagNames (now names) × Marked (decode (now table)) TagValues (now values) × (rangeBefore (decode (now table)) place ≡ rangeBefore (decode (now table)) after) ⌝ }
+    requires { ⌜ CheckingTag (decode (now table)) decl tags ranges (now lows) (now highs) (now names) (now values) after place (tally .total) ⌝ }
     ensures { λ r. ⌜ log r (now (buffer .exit)) ≡ notedAll (log tally (now (buffer .entry))) (tagFaults (decode (now (table .entry))) decl tags place) ⌝ }
 {
     let most = widths::scalar_max(records::at(table, decl).one);

@@ -10,7 +10,7 @@ ghost use Rattle.enum_ranges.specs.Bounds.{one, countOf, holders, lowsOf
 ghost use Rattle.enum_ranges.specs.Order.{Ordered, Split};
 
 // The bounds of the ranges at the first `count` places of `places`.
-pub fn fill(table: &[u8], places: &[u16], count: usize, lows: &mut [u64], highs: &mut [u64])
+pub(crate) fn fill(table: &[u8], places: &[u16], count: usize, lows: &mut [u64], highs: &mut [u64])
     requires { ⌜ (count ≤ length (now places)) × (count ≤ length (now lows)) × (count ≤ length (now highs)) ⌝ }
     ensures { λ _. ⌜ (take count (now (lows .exit)) ≡ lowsOf (decode (now (table .entry))) (take count (now (places .entry)))) × (take count (now (highs .exit)) ≡ highsOf (decode (now (table .entry))) (take count (now (places .entry)))) ⌝ }
 {

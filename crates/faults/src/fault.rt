@@ -33,7 +33,7 @@ pub fn double(code: u16, primary: Record, secondary: Record) -> Fault
 }
 
 // The bytes of a fault.
-pub fn bytes_of(fault: Fault) -> [u8; 20]
+pub(crate) fn bytes_of(fault: Fault) -> [u8; 20]
     ensures { λ r. ⌜ r ≡ faultBytes fault ⌝ }
 {
     [

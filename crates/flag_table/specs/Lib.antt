@@ -1,1 +1,2 @@
 pub mod RecordsAppended
+pub mod Writing

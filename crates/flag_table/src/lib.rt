@@ -6,8 +6,9 @@ ghost use Prim.Native.Nat.{_+_, _-_, _<_, _≤_};
 ghost use lib.ListN.{length};
 ghost use Rattle.rules.specs.Bytes.{written};
 ghost use Rattle.rules.specs.Table.{decode, encode};
-ghost use Rattle.rules.specs.DesugarFlags.{membersStart, entryOf, entriesFrom, flagOf, conditionAt, entriesAt, ownEntries, desugaredAt, desugared};
+ghost use Rattle.rules.specs.DesugarFlags.{entryOf, entriesFrom, flagOf, conditionAt, entriesAt, ownEntries, desugaredAt, desugared};
 ghost use Rattle.flag_sizes.specs.Counts.{Counted};
+ghost use Rattle.flag_table.specs.Writing.{WritingAt};
 ghost use Rattle.flag_table.specs.RecordsAppended.{RecordsAppended, RoomForRecords};
 
 // The entry of the condition at `place`.
@@ -144,7 +145,7 @@ fn write_at(
     out: &mut [u8],
     count: usize,
 ) -> usize
-    requires { ⌜ Counted (decode (now table)) (now counts) (length (decode (now table))) × (length (decode (now table)) ≤ 1600) × (place < length (decode (now table))) × (members ≡ membersStart (decode (now table)) place) × RoomForRecords (now out) count (desugaredAt (decode (now table)) place) ⌝ }
+    requires { ⌜ WritingAt (decode (now table)) (now counts) place members (now out) count ⌝ }
     ensures { λ n. ⌜ RecordsAppended (now (out .entry)) count (desugaredAt (decode (now (table .entry))) place) (now (out .exit)) n ⌝ }
 {
     let r = records::at(table, place);

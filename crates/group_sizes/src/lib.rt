@@ -5,14 +5,12 @@ use kinds::is_constraint_or_condition;
 use kinds::is_kept;
 use rules::limits::MOST_RECORDS;
 ghost use mathlib.Core.Path.{_≡_};
-ghost use mathlib.Core.Bool.{true};
 ghost use Prim.Native.Nat.{_+_, _<_, _≤_, min};
 ghost use lib.ListN.{length, getD};
-ghost use Rattle.rules.specs.Table.{decode, at};
-ghost use Rattle.rules.specs.Kinds.{isDecl};
+ghost use Rattle.rules.specs.Table.{decode};
 ghost use Rattle.group_sizes.specs.GroupsFirst.{GroupsFirst};
 ghost use Rattle.group_sizes.specs.Targets.{Resolved};
-ghost use Rattle.group_sizes.specs.Sizes.{sizeHere, sizeFrom, Sized, totalSize};
+ghost use Rattle.group_sizes.specs.Sizes.{sizeHere, sizeFrom, SizingAfter, Sized, totalSize};
 
 // How many records the record of kind `kind` at `place` becomes; bound: it belongs to a group field.
 fn size_here(targets: &[u16], sizes: &[u16], kind: u8, place: usize, bound: bool) -> u16
@@ -31,7 +29,7 @@ fn size_here(targets: &[u16], sizes: &[u16], kind: u8, place: usize, bound: bool
 
 // How many records stand behind the declaration at `decl` once its groups are inlined, by the sizes of those groups.
 fn size_after(table: &[u8], targets: &[u16], sizes: &[u16], decl: usize) -> usize
-    requires { ⌜ (length (decode (now table)) ≤ 1600) × Resolved (decode (now table)) (now targets) (length (decode (now table))) × (length (decode (now table)) ≤ length (now sizes)) × (decl < length (decode (now table))) × (isDecl (at (decode (now table)) decl .kind) ≡ true) ⌝ }
+    requires { ⌜ SizingAfter (decode (now table)) (now targets) (now sizes) decl ⌝ }
     ensures { λ r. ⌜ r ≡ sizeFrom (now (targets .entry)) (now (sizes .entry)) (decode (now (table .entry))) (decl + 1) ⌝ }
 {
     let end = table::count(table);

@@ -9,11 +9,10 @@ use rules::limits::FAULT_LENGTH;
 ghost use mathlib.Core.Path.{_≡_};
 ghost use Prim.Native.Nat.{_+_, _*_, _≤_, min};
 ghost use lib.ListN.{length};
-ghost use Rattle.rules.specs.Bytes.{written};
 ghost use Rattle.rules.specs.Faults.{faultAt, faultRoom};
 ghost use Rattle.rules.specs.Replies.{numbered, answered};
 ghost use Rattle.rules.specs.Printed.{recordLine, faultLine, recordLines, faultLines, detail, printed};
-ghost use Rattle.printed.specs.TextAppended.{TextAppended};
+ghost use Rattle.printed.specs.TextAppended.{TextAppended, TextBegins};
 ghost use Rattle.printed.specs.Whole.{Whole};
 
 // A record's line: ten numbers.
@@ -122,7 +121,7 @@ fn append_detail(text: &mut [u8], at: usize, reply: Reply, table: &[u8], faults:
 // All that is printed, from the start of the text; it ends at the place returned.
 pub fn append_answer(text: &mut [u8], reply: Reply, table: &[u8], faults: &[u8]) -> usize
     requires { ⌜ (340000 ≤ length (now text)) × (length (now table) ≤ 64000) × (length (now faults) ≤ 64000) × Whole (answered reply (now table) (now faults)) ⌝ }
-    ensures { λ r. ⌜ (now (text .exit) ≡ written (now (text .entry)) 0 (printed (answered reply (now (table .entry)) (now (faults .entry))))) × (r ≡ length (printed (answered reply (now (table .entry)) (now (faults .entry))))) ⌝ }
+    ensures { λ r. ⌜ TextBegins (now (text .entry)) (printed (answered reply (now (table .entry)) (now (faults .entry)))) (now (text .exit)) r ⌝ }
 {
     let p = replies::append_reply(text, 0, reply);
     append_detail(text, p, reply, table, faults)

@@ -8,9 +8,9 @@ use rules::limits::TABLE_LENGTH;
 ghost use mathlib.Core.Path.{_≡_};
 ghost use Prim.Native.Nat.{_≤_};
 ghost use lib.ListN.{length};
-ghost use Rattle.rules.specs.Bytes.{written};
 ghost use Rattle.rules.specs.Replies.{answer};
 ghost use Rattle.rules.specs.Printed.{printed, program};
+ghost use Rattle.printed.specs.TextAppended.{TextBegins};
 
 // Room for every length of which the reply depends on more than the remainder, and for each remainder above.
 fn input_buffer() -> [u8; INPUT_LENGTH]
@@ -31,7 +31,7 @@ fn text_buffer() -> [u8; TEXT_LENGTH]
 // The analyzer with these buffers, and its answer, printed at the start of the text.
 fn answer_with(input: &[u8], table: &mut [u8], faults: &mut [u8], text: &mut [u8]) -> usize
     requires { ⌜ (340000 ≤ length (now text)) × (length (now table) ≤ 64000) × (length (now faults) ≤ 64000) ⌝ }
-    ensures { λ r. ⌜ (now (text .exit) ≡ written (now (text .entry)) 0 (printed (answer (now (input .entry)) (now (table .entry)) (now (faults .entry))))) × (r ≡ length (printed (answer (now (input .entry)) (now (table .entry)) (now (faults .entry))))) ⌝ }
+    ensures { λ r. ⌜ TextBegins (now (text .entry)) (printed (answer (now (input .entry)) (now (table .entry)) (now (faults .entry)))) (now (text .exit)) r ⌝ }
 {
     let reply = analyzer::analyze(input, table, faults);
     printed::append_answer(text, reply, table, faults)
@@ -40,7 +40,7 @@ fn answer_with(input: &[u8], table: &mut [u8], faults: &mut [u8], text: &mut [u8
 // All that the program prints for an input, at the start of the text, and its length.
 pub fn answer_text(input: &[u8], text: &mut [u8]) -> usize
     requires { ⌜ 340000 ≤ length (now text) ⌝ }
-    ensures { λ r. ⌜ (now (text .exit) ≡ written (now (text .entry)) 0 (program (now (input .entry)))) × (r ≡ length (program (now (input .entry)))) ⌝ }
+    ensures { λ r. ⌜ TextBegins (now (text .entry)) (program (now (input .entry))) (now (text .exit)) r ⌝ }
 {
     let mut table = [0u8; TABLE_LENGTH];
     let mut faults = [0u8; TABLE_LENGTH];

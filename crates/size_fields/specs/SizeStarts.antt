@@ -1,8 +1,8 @@
 -- Where the search for what a Size, Count or ElementSize names may start.
-use Prim.Native.Nat.{ℕ, _%_, _<_, _≤_}
+use Prim.Native.Nat.{ℕ, _+_, _%_, _<_, _≤_}
 use mathlib.Core.Path.{_≡_}
 use mathlib.Core.List.{List}
-use mathlib.Core.Bool.{false}
+use mathlib.Core.Bool.{true, false}
 use lib.ListN.{length, getD}
 use lib.Dec.{ltb}
 use Rattle.rules.specs.Choice.{if_then_else_}
@@ -37,3 +37,20 @@ pub record Later (rs : List Record) (last : List ℕ) (e k : ℕ) : Type 0 where
   pub entries : (h : ℕ) → k ≤ getD last h 65535
   pub members : (i : ℕ) → k ≤ i → i < e → isDecl (at rs i .kind) ≡ false
   pub ends : (k ≤ e) × (e ≤ length rs)
+
+-- the arrays are long enough, and the starts that are known are right
+abbrev pub Filling : List Record → List ℕ → List ℕ → Type 0
+Filling rs last starts = (4093 ≤ length last) × (1600 ≤ length starts) × SizeStarts rs starts
+
+-- what is asked where the start for the record at q is set: the search from it finds what the record names
+abbrev pub SettingStart : List Record → ℕ → ℕ → List ℕ → List ℕ → Type 0
+SettingStart rs q e last starts =
+    (q < 1600) × (e ≤ 1600) × (firstWithin rs (targetAt rs q) q ≡ firstFrom rs (targetAt rs q) (startFor last e (at rs q .second))) × Filling rs last starts
+
+-- what is asked where the starts for the sizes of the declaration at d are set, of which the next stands at e
+abbrev pub SettingStarts : List Record → ℕ → ℕ → List ℕ → List ℕ → Type 0
+SettingStarts rs d e last starts = (length rs ≤ 1600) × (isDecl (at rs d .kind) ≡ true) × Later rs last e (d + 1) × Filling rs last starts
+
+-- what is asked where the place p is added to the places kept
+abbrev pub Stepping : List Record → ℕ → ℕ → List ℕ → List ℕ → Type 0
+Stepping rs p e last starts = (p < length rs) × (length rs ≤ 1600) × Later rs last e (p + 1) × Filling rs last starts

@@ -13,7 +13,7 @@ ghost use Rattle.repeats.specs.Marks.{Marked};
 ghost use Rattle.repeats.specs.declared.marks.Key.the-variants.{Sizes, ElementSizes};
 
 // The code of a repeat, before those for missing and for no array.
-pub fn size_code(kind: u8) -> u16
+pub(crate) fn size_code(kind: u8) -> u16
     requires { ⌜ 22 ≤ kind ⌝ }
     ensures { λ r. ⌜ r ≡ sizeCode kind ⌝ }
 {

@@ -7,13 +7,10 @@ use table::NO_PLACE;
 use table::PAYLOAD_NAME;
 use table::REMAINDERS;
 ghost use mathlib.Core.Path.{_≡_};
-ghost use mathlib.Core.Bool.{true};
-ghost use Prim.Native.Nat.{_+_, _<_, _≤_};
+ghost use Prim.Native.Nat.{_≤_};
 ghost use lib.ListN.{length, replicate};
-ghost use Rattle.rules.specs.Kinds.{isDecl};
 ghost use Rattle.rules.specs.Table.{decode, at};
-ghost use Rattle.rules.specs.Places.{firstFrom, firstWithin};
-ghost use Rattle.size_fields.specs.SizeStarts.{targetAt, SizeStarts, nameOf, startFor, Later};
+ghost use Rattle.size_fields.specs.SizeStarts.{SizeStarts, nameOf, startFor, Later, SettingStart, SettingStarts, Stepping};
 
 // The only name by which a size can mean the record at `place`.
 fn name_of(table: &[u8], place: usize) -> u16
@@ -44,7 +41,7 @@ fn start_for(last: &[u16], end: usize, name: u16) -> u16
 
 // The start for the record at `place`, if it is a size.
 fn set_start(table: &[u8], place: usize, end: usize, last: &[u16], starts: &mut [u16])
-    requires { ⌜ (place < 1600) × (end ≤ 1600) × (4093 ≤ length (now last)) × (1600 ≤ length (now starts)) × SizeStarts (decode (now table)) (now starts) × (firstWithin (decode (now table)) (targetAt (decode (now table)) place) place ≡ firstFrom (decode (now table)) (targetAt (decode (now table)) place) (startFor (now last) end (at (decode (now table)) place .second))) ⌝ }
+    requires { ⌜ SettingStart (decode (now table)) place end (now last) (now starts) ⌝ }
     ensures { λ _. ⌜ SizeStarts (decode (now (table .entry))) (now (starts .exit)) ⌝ }
 {
     if is_size(table::kind(table, place)) {
@@ -55,7 +52,7 @@ fn set_start(table: &[u8], place: usize, end: usize, last: &[u16], starts: &mut 
 
 // The starts for the sizes of the declaration at `decl`. The next one stands at `end`.
 fn set_starts(table: &[u8], decl: usize, end: usize, last: &[u16], starts: &mut [u16])
-    requires { ⌜ (length (decode (now table)) ≤ 1600) × (4093 ≤ length (now last)) × (1600 ≤ length (now starts)) × SizeStarts (decode (now table)) (now starts) × (isDecl (at (decode (now table)) decl .kind) ≡ true) × Later (decode (now table)) (now last) end (decl + 1) ⌝ }
+    requires { ⌜ SettingStarts (decode (now table)) decl end (now last) (now starts) ⌝ }
     ensures { λ _. ⌜ SizeStarts (decode (now (table .entry))) (now (starts .exit)) ⌝ }
 {
     let mut q = decl + 1;
@@ -67,7 +64,7 @@ fn set_starts(table: &[u8], decl: usize, end: usize, last: &[u16], starts: &mut 
 
 // One place more. The result is the next declaration from `place` on.
 fn step(table: &[u8], place: usize, end: usize, last: &mut [u16], starts: &mut [u16]) -> usize
-    requires { ⌜ (place < length (decode (now table))) × (length (decode (now table)) ≤ 1600) × (4093 ≤ length (now last)) × (1600 ≤ length (now starts)) × SizeStarts (decode (now table)) (now starts) × Later (decode (now table)) (now last) end (place + 1) ⌝ }
+    requires { ⌜ Stepping (decode (now table)) place end (now last) (now starts) ⌝ }
     ensures { λ r. ⌜ SizeStarts (decode (now (table .entry))) (now (starts .exit)) × Later (decode (now (table .entry))) (now (last .exit)) r place ⌝ }
 {
     if is_decl(table::kind(table, place)) {

@@ -13,7 +13,7 @@ note-tags-requires : tie.Need-note-tags-requires
 note-tags-requires c κs =
     let o = c .before .before .before .before .before .before .before .before .before in
     let s = o .before .before .before .before .before .before .before .before .before .before .before in
-    (s .pre .0, omega (arith, s .pre), o .arrange .ensures .1, s .pre .5, s .pre .6)
+    (s .pre .0, omega (arith, s .pre), o .arrange .ensures .1, (s .pre .2 .0, s .pre .2 .1))
 
 note-overlaps-requires : tie.Need-note-overlaps-requires
 note-overlaps-requires c κs =

@@ -33,7 +33,7 @@ note-place-requires c κs =
     let l = c .before .before .before .before .before in
     let s = l .before .before .before .before .before .before .before .before .before .before in
     let total = each-total _ 3000000 (l .loop .d) none _ (place-few (decode (now (s .args .table))) (search needs)) (l .loop .inv .0) in
-    (search needs, search needs, search needs, search needs, search needs, omega arith, search needs, search needs)
+    (search needs, search needs, omega arith, (search needs, search needs, search needs, search needs, search needs))
 
 loop-again : tie.Need-loop-again Inv-loop μ-loop
 loop-again c =

@@ -17,7 +17,7 @@ note-enum-requires : tie.Need-note-enum-requires
 note-enum-requires c κs =
     let t = c .before .before .before .before in
     let s = t .before .before .before .before .before .before .before .before .before .before in
-    (omega (arith, s .pre, t .member-count .ensures), s .pre .2, s .pre .3, s .pre .4, s .pre .5, s .pre .6, s .pre .7)
+    (omega (arith, s .pre, t .member-count .ensures), s .pre .2, s .pre .3)
 
 returns-2 : tie.Need-returns-2
 unfolding pass4At

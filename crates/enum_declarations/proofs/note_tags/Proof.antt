@@ -36,7 +36,7 @@ note-tag-requires c κs =
     let s = l .before .before .before .before .before .before .before in
     let few = tag-few (decode (now (s .args .table))) (s .args .decl) (s .args .tags) in
     let total = each-total _ 1603 (l .loop .i) _ _ (λ i. few (s .args .decl + 1 + i) (search needs)) (l .loop .inv .0) in
-    (search needs, omega arith, search needs, search needs, search needs, search needs)
+    (search needs, omega arith, search needs, search needs, search needs)
 
 loop-again : tie.Need-loop-again Inv-loop μ-loop
 loop-again c =

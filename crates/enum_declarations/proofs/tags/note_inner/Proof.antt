@@ -13,7 +13,7 @@ returns c =
     let r = l .before in
     let e = r .before in
     let s = e .before .before .before .before .before in
-    rw (s .pre .3, ← e .nearest .ensures, ← r .range-found .ensures, ← l .lesser .ensures, ← g .greater .ensures) (n .note-value .ensures)
+    rw (s .pre .1, ← e .nearest .ensures, ← r .range-found .ensures, ← l .lesser .ensures, ← g .greater .ensures) (n .note-value .ensures)
 
 pub note-inner-spec : {M : Type 1} → statement M
 note-inner-spec =

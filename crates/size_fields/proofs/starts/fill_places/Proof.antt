@@ -31,7 +31,7 @@ step-requires c κs =
     let h = c .before .before .loop-test .taken in
     let s = l .before .before .before .before .before in
     let z : l .loop .p - 1 + 1 ≡ l .loop .p = omega arith in
-    (omega (arith, h, v .1 .ends), s .pre .0, omega (arith, v .3, v .4), omega (arith, v .2, s .pre .2), v .0, rw z (v .1))
+    (omega (arith, h, v .1 .ends), s .pre .0, rw z (v .1), (omega (arith, v .3, v .4), omega (arith, v .2, s .pre .2), v .0))
 
 loop-again : tie.Need-loop-again Inv-loop μ-loop
 loop-again c =

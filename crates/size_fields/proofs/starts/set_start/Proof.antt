@@ -7,7 +7,7 @@ use Rattle.size_fields.proofs.starts.set_start.Tie as tie
 returns : tie.Need-returns
 returns c =
     let s = c .before .before .before .before .before .before .before .before in
-    starts-one _ _ _ _ (search needs) (s .pre .4) (rw (c .start-for .ensures, c .before .second .ensures) (s .pre .5))
+    starts-one _ _ _ _ (search needs) (s .pre .3 .2) (rw (c .start-for .ensures, c .before .second .ensures) (s .pre .2))
 
 pub set-start-spec : {M : Type 1} → statement M
 set-start-spec =

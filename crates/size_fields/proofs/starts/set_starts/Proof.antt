@@ -17,10 +17,10 @@ abbrev μ-loop : tie.MeasureT-loop
 μ-loop t d e last places₀ q₀ places q = e - q
 
 add-q : tie.Need-add-q Inv-loop μ-loop
-add-q c = let s = c .before .before .before in omega (arith, s .pre .0, s .pre .5 .ends)
+add-q c = let s = c .before .before .before in omega (arith, s .pre .0, s .pre .2 .ends)
 
 loop-holds : tie.Need-loop-holds Inv-loop μ-loop
-loop-holds c = (c .before .before .before .pre .3, omega arith, refl)
+loop-holds c = (c .before .before .before .pre .3 .2, omega arith, refl)
 
 set-start-requires : tie.Need-set-start-requires Inv-loop μ-loop
 set-start-requires c κs =
@@ -28,9 +28,9 @@ set-start-requires c κs =
     let l = c .before .before in
     let v = l .loop .inv in
     let s = l .before .before .before .before in
-    let w = s .pre .5 in
-    let r = later-within _ _ _ _ _ w (s .pre .4) (v .1) h in
-    (omega (arith, h, s .pre .0, w .ends), omega (arith, s .pre .0, w .ends), s .pre .1, omega (arith, s .pre .2, v .2), v .0, r)
+    let w = s .pre .2 in
+    let r = later-within _ _ _ _ _ w (s .pre .1) (v .1) h in
+    (omega (arith, h, s .pre .0, w .ends), omega (arith, s .pre .0, w .ends), r, (s .pre .3 .0, omega (arith, s .pre .3 .1, v .2), v .0))
 
 loop-again : tie.Need-loop-again Inv-loop μ-loop
 loop-again c =

@@ -11,13 +11,13 @@ set-starts-requires c κs =
     let i = f .before in
     let k = i .before in
     let s = k .before .before .before .before in
-    (s .pre .1, s .pre .2, s .pre .3, s .pre .4, rw (← k .kind .ensures) (sym (i .is-decl .ensures) ∙ f .if1 .taken), s .pre .5)
+    (s .pre .1, rw (← k .kind .ensures) (sym (i .is-decl .ensures) ∙ f .if1 .taken), s .pre .2, s .pre .3)
 
 returns : tie.Need-returns
 returns c =
     let m = c .before .before in
     let s = m .before .before .before .before .before .before .before .before .before in
-    (m .set-starts .ensures, later-decl _ _ _ _ (s .pre .0) (s .pre .5))
+    (m .set-starts .ensures, later-decl _ _ _ _ (s .pre .0) (s .pre .2))
 
 returns-2 : tie.Need-returns-2
 returns-2 c =
@@ -26,7 +26,7 @@ returns-2 c =
     let k = i .before in
     let s = k .before .before .before .before in
     let d = sym (i .is-decl .ensures) ∙ f .if1 .left in
-    (s .pre .4, later-other _ _ _ _ (s .pre .0) (s .pre .5) _ (c .name-of .ensures) (s .pre .2) (rw (← k .kind .ensures) d))
+    (s .pre .3 .2, later-other _ _ _ _ (s .pre .0) (s .pre .2) _ (c .name-of .ensures) (s .pre .3 .0) (rw (← k .kind .ensures) d))
 
 pub step-spec : {M : Type 1} → statement M
 step-spec =
