@@ -18,7 +18,7 @@ use Rattle.rules.specs.declared.Target.the-variants.{Decl}
 use Rattle.table.proofs.Laws.{each-more, each-few, first-in, if-few, when-few}
 use Rattle.enum_ranges.proofs.Sorts.{length-sorted}
 use Rattle.enum_ranges.proofs.overlaps.Laws.{overlap-few}
-use Rattle.enum_declarations.proofs.tags.Laws.{tag-few}
+use Rattle.enum_tags.proofs.Laws.{tag-few}
 
 range-few-at : (rs : List Record) (q : ℕ) → length (rangeAt rs q) ≤ 1
 range-few-at rs q = when-few (eqb (at rs q .kind) 41) q

@@ -1,6 +1,4 @@
 // Pass 4, `check_enum_declarations`: the tags of each enum.
-mod tags;
-
 use repeats::marks::Key;
 use rules::Found;
 use rules::Tally;
@@ -15,8 +13,8 @@ ghost use Rattle.rules.specs.Table.{decode};
 ghost use Rattle.rules.specs.Faults.{log, logged};
 ghost use Rattle.rules.specs.EnumDeclarations.{tagsFaults, enumFaults, pass4At, pass4};
 ghost use Rattle.faults.specs.Notes.{notedAll};
-ghost use Rattle.enum_ranges.specs.Bounds.{Bounds};
-ghost use Rattle.enum_declarations.specs.Enums.{TagsMarked, Prepared};
+ghost use Rattle.enum_bounds.specs.Bounds.{Bounds};
+ghost use Rattle.enum_tags.specs.Enums.{TagsMarked, Prepared};
 
 // The tags of the enum at `decl`, which has `tags` of them. The first `ranges` numbers are the bounds of its ranges.
 fn note_tags(
@@ -39,7 +37,7 @@ fn note_tags(
     let mut i = 0;
     while i < tags {
         let p = decl + 1 + i;
-        kept = tags::note_tag(
+        kept = enum_tags::note_tag(
             table,
             names,
             values,
@@ -53,7 +51,7 @@ fn note_tags(
             kept,
             buffer,
         );
-        after = tags::after_range(table, after, p);
+        after = enum_tags::after_range(table, after, p);
         i += 1;
     }
     kept

@@ -1,6 +1,6 @@
 // Overlaps: neighbours among the sorted ranges of an enum that share a value.
-use crate::range::greater;
-use crate::range::lesser;
+use enum_bounds::range::greater;
+use enum_bounds::range::lesser;
 use faults::Finding;
 use repeats::when;
 use rules::Tally;

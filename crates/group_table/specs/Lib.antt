@@ -1,2 +1,1 @@
-pub mod Constraints
 pub mod Outputs

@@ -1,8 +1,6 @@
 // The table with each group field replaced by the fields of its group, fixed as its constraints say, written record by record.
-mod constraints;
-
-use constraints::inlined_record;
-use constraints::push_constraints;
+use group_constraints::inlined_record;
+use group_constraints::push_constraints;
 use kinds::is_constraint_or_condition;
 use kinds::is_kept;
 use rules::FieldKey;

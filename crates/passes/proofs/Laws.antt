@@ -22,10 +22,10 @@ use Rattle.rules.specs.declared.Reply.{Reply}
 use Rattle.rules.specs.declared.Reply.the-variants.{Faulty}
 use Rattle.table.proofs.Laws.{first-in}
 use Rattle.faults.proofs.Laws.{logged-none}
-use Rattle.passes.specs.Later.{Outcome, outcome, checkedNumbered, findsLater, byLater, later}
-use Rattle.passes.specs.declared.checks.Checked as passes
-use Rattle.passes.specs.declared.checks.Checked.the-variants as checked
-use Rattle.passes.proofs.checks.Laws.{lowest-later}
+use Rattle.pass_checks.specs.Later.{Outcome, outcome, checkedNumbered, findsLater, byLater, later}
+use Rattle.pass_checks.specs.declared.Checked as passes
+use Rattle.pass_checks.specs.declared.Checked.the-variants as checked
+use Rattle.pass_checks.proofs.Laws.{lowest-later}
 use Rattle.decl_order.specs.Contract.{ListedAtStart, DeclIdentifiersChecked}
 use Rattle.group_sizes.specs.GroupsFirst.{GroupsFirst}
 use Rattle.decl_order.specs.declared.OrderResult as order

@@ -7,7 +7,7 @@ use Rattle.rules.specs.Replies.{Answer, laterFaults, answeredFaulty, bySize}
 use Rattle.rules.specs.declared.Record.{Record}
 use Rattle.rules.specs.declared.Found.{Found}
 use Rattle.rules.specs.declared.Found.the-variants.{At, Nothing}
-use Rattle.passes.specs.Later.{findsLater}
+use Rattle.pass_checks.specs.Later.{findsLater}
 
 -- that pass, the lowest of 3–9, finds faults
 unfoldable pub byListedPass : List Record → List ℕ → List ℕ → Found → Answer

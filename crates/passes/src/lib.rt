@@ -1,8 +1,5 @@
 // The nine passes in their order, then the table: the rows from Faulty on.
-pub mod checks;
-mod rewrite;
-
-use checks::Checked;
+use pass_checks::Checked;
 use rules::Reply;
 use rules::limits::RECORD_LENGTH;
 ghost use mathlib.Core.Path.{_≡_};
@@ -20,9 +17,9 @@ fn check_listed(listed: &[u8], table: &mut [u8], faults: &mut [u8]) -> Reply
     requires { ⌜ (length (decode (now listed)) ≤ 1600) × GroupsFirst (decode (now listed)) ⌝ }
     ensures { λ r. ⌜ answered r (now (table .exit)) (now (faults .exit)) ≡ byListed (decode (now (listed .entry))) (now (table .entry)) (now (faults .entry)) ⌝ }
 {
-    match checks::run_later(listed, faults) {
+    match pass_checks::run_later(listed, faults) {
         Checked::Faulty(pass, total) => Reply::Faulty(pass, total),
-        Checked::Clean => rewrite::write_listed(listed, table),
+        Checked::Clean => accepted_table::write_listed(listed, table),
     }
 }
 
@@ -45,7 +42,7 @@ pub fn check_passes(input: &[u8], listed: &mut [u8], table: &mut [u8], faults: &
     requires { ⌜ (length (decode (now input)) ≤ 1600) × (40 * length (decode (now input)) ≤ length (now listed)) ⌝ }
     ensures { λ r. ⌜ answered r (now (table .exit)) (now (faults .exit)) ≡ byPasses (decode (now (input .entry))) (now (table .entry)) (now (faults .entry)) ⌝ }
 {
-    let tally = checks::scope_new(input, faults);
+    let tally = pass_checks::scope_new(input, faults);
     if 0 < tally.total {
         return Reply::Faulty(1, tally.total);
     }

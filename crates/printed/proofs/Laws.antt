@@ -22,8 +22,8 @@ use Rattle.rules.proofs.Reply.{the-type}
 use Rattle.rules.specs.declared.Record.{Record}
 use Rattle.rules.specs.declared.Fault.{Fault}
 use Rattle.table.proofs.Laws.{each-more, each-few}
-use Rattle.printed.specs.TextAppended.{TextAppended}
-use Rattle.printed.proofs.text.Laws.{append-none, append-then, length-decimal, length-line}
+use Rattle.printed_text.specs.TextAppended.{TextAppended}
+use Rattle.printed_text.proofs.Laws.{append-none, append-then, length-decimal, length-line}
 use Rattle.printed.specs.Whole.{recordsBehind}
 
 -- a fault's line without a secondary location, and with one

@@ -1,2 +1,1 @@
-pub mod TextAppended
 pub mod Whole

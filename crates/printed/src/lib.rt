@@ -1,7 +1,4 @@
 // What the program prints, appended to one lent text: the reply's line, and a line for each fault kept or record.
-mod replies;
-mod text;
-
 use rules::Fault;
 use rules::Record;
 use rules::Reply;
@@ -12,7 +9,7 @@ ghost use lib.ListN.{length};
 ghost use Rattle.rules.specs.Faults.{faultAt, faultRoom};
 ghost use Rattle.rules.specs.Replies.{numbered, answered};
 ghost use Rattle.rules.specs.Printed.{recordLine, faultLine, recordLines, faultLines, detail, printed};
-ghost use Rattle.printed.specs.TextAppended.{TextAppended, TextBegins};
+ghost use Rattle.printed_text.specs.TextAppended.{TextAppended, TextBegins};
 ghost use Rattle.printed.specs.Whole.{Whole};
 
 // A record's line: ten numbers.
@@ -31,7 +28,7 @@ fn append_record(text: &mut [u8], at: usize, r: Record) -> usize
         r.start as u64,
         r.end as u64,
     ];
-    text::append_list(text, at, r.kind as u64, &ns)
+    printed_text::append_list(text, at, r.kind as u64, &ns)
 }
 
 // A fault's line: its code and its primary location, and the secondary one where there is one.
@@ -41,7 +38,7 @@ fn append_fault(text: &mut [u8], at: usize, fault: Fault) -> usize
 {
     if fault.secondary == 0 {
         let ns = [fault.start as u64, fault.end as u64];
-        return text::append_list(text, at, fault.code as u64, &ns);
+        return printed_text::append_list(text, at, fault.code as u64, &ns);
     }
     let ns = [
         fault.start as u64,
@@ -49,7 +46,7 @@ fn append_fault(text: &mut [u8], at: usize, fault: Fault) -> usize
         fault.start2 as u64,
         fault.end2 as u64,
     ];
-    text::append_list(text, at, fault.code as u64, &ns)
+    printed_text::append_list(text, at, fault.code as u64, &ns)
 }
 
 // The fault in the 20 bytes from `from`.
@@ -123,6 +120,6 @@ pub fn append_answer(text: &mut [u8], reply: Reply, table: &[u8], faults: &[u8])
     requires { ⌜ (340000 ≤ length (now text)) × (length (now table) ≤ 64000) × (length (now faults) ≤ 64000) × Whole (answered reply (now table) (now faults)) ⌝ }
     ensures { λ r. ⌜ TextBegins (now (text .entry)) (printed (answered reply (now (table .entry)) (now (faults .entry)))) (now (text .exit)) r ⌝ }
 {
-    let p = replies::append_reply(text, 0, reply);
+    let p = printed_text::replies::append_reply(text, 0, reply);
     append_detail(text, p, reply, table, faults)
 }

@@ -10,7 +10,7 @@ ghost use Prim.Native.Nat.{_≤_};
 ghost use lib.ListN.{length};
 ghost use Rattle.rules.specs.Replies.{answer};
 ghost use Rattle.rules.specs.Printed.{printed, program};
-ghost use Rattle.printed.specs.TextAppended.{TextBegins};
+ghost use Rattle.printed_text.specs.TextAppended.{TextBegins};
 
 // Room for every length of which the reply depends on more than the remainder, and for each remainder above.
 fn input_buffer() -> [u8; INPUT_LENGTH]

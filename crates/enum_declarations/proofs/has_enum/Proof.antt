@@ -9,7 +9,7 @@ use lib.ListN.{length}
 use Rattle.rules.specs.Table.{decode}
 use Rattle.rules.specs.Places.{each}
 use Rattle.rules.specs.EnumDeclarations.{pass4At, pass4}
-use Rattle.enum_ranges.proofs.bounds.Splits.{clash}
+use Rattle.enum_bounds.proofs.Splits.{clash}
 use Rattle.enum_declarations.proofs.Laws.{none-start, none-more}
 use Rattle.enum_declarations.proofs.has_enum.Statement.{statement}
 use Rattle.enum_declarations.proofs.has_enum.Tie as tie

@@ -12,8 +12,8 @@ use Rattle.rules.specs.Faults.{log}
 use Rattle.rules.specs.EnumDeclarations.{tagFaults, tagsFaults}
 use Rattle.faults.specs.Notes.{notedAll}
 use Rattle.faults.proofs.Laws.{noted-start, noted-place, noted-end, each-total}
-use Rattle.enum_declarations.specs.Before.{rangeBefore}
-use Rattle.enum_declarations.proofs.tags.Laws.{tag-few}
+use Rattle.enum_tags.specs.Before.{rangeBefore}
+use Rattle.enum_tags.proofs.Laws.{tag-few}
 use Rattle.enum_declarations.proofs.note_tags.Statement.{statement}
 use Rattle.enum_declarations.proofs.note_tags.Tie as tie
 

@@ -18,9 +18,9 @@ use Rattle.group_table.proofs.expand.Reads as expand
 use Rattle.group_table.proofs.expand.Kinds as expand-kinds
 use Rattle.group_table.proofs.+expand.Lts-expand as expand-lts
 use Rattle.group_table.proofs.add.Reads as add-reads
-use Rattle.group_table.proofs.constraints.inlined_record.Reads as inlined-record-reads
+use Rattle.group_constraints.proofs.inlined_record.Reads as inlined-record-reads
 use Rattle.kinds.proofs.is_constraint_or_condition.Reads as is-constraint-or-condition-reads
-use Rattle.group_table.proofs.constraints.push_constraints.Reads as push-constraints-reads
+use Rattle.group_constraints.proofs.push_constraints.Reads as push-constraints-reads
 use Rattle.table.proofs.count.Reads as count-reads
 use Rattle.table.proofs.kind.Reads as kind-reads
 use Rattle.kinds.proofs.is_decl.Reads as is-decl-reads

@@ -4,8 +4,8 @@ use native.Mathlib.Omega.{arith}
 use native.Mathlib.Nat.{zero-add}
 use mathlib.Core.Path.{_∙_}
 use Rattle.rules.specs.Printed.{printed}
-use Rattle.printed.proofs.text.Laws.{append-then}
-use Rattle.printed.proofs.replies.Laws.{length-reply}
+use Rattle.printed_text.proofs.Laws.{append-then}
+use Rattle.printed_text.proofs.replies.Laws.{length-reply}
 use Rattle.printed.proofs.append_answer.Statement.{statement}
 use Rattle.printed.proofs.append_answer.Tie as tie
 

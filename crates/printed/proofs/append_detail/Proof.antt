@@ -3,7 +3,7 @@ use borrow.Author.Needs.{needs}
 use native.Mathlib.Omega.{arith}
 use Rattle.rules.specs.Replies.{numbered}
 use Rattle.rules.specs.Printed.{detail}
-use Rattle.printed.proofs.text.Laws.{append-none}
+use Rattle.printed_text.proofs.Laws.{append-none}
 use Rattle.printed.proofs.Laws.{no-detail, records-behind}
 use Rattle.printed.proofs.append_detail.Statement.{statement}
 use Rattle.printed.proofs.append_detail.Tie as tie

@@ -5,7 +5,7 @@ use mathlib.Core.Path.{_≡_, refl, ap}
 use lib.ListN.{length}
 use denote.Ref.{now}
 use Rattle.rules.specs.Printed.{faultLine, faultLines}
-use Rattle.printed.specs.TextAppended.{TextAppended}
+use Rattle.printed_text.specs.TextAppended.{TextAppended}
 use Rattle.printed.proofs.Laws.{faultLineAt, length-fault, each-none, line-fits, append-each, each-done}
 use Rattle.printed.proofs.append_faults.Statement.{statement}
 use Rattle.printed.proofs.append_faults.Tie as tie

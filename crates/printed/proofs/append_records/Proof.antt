@@ -7,7 +7,7 @@ use lib.ListN.{length}
 use denote.Ref.{now}
 use Rattle.rules.specs.Printed.{recordLine, recordLines}
 use Rattle.table.proofs.Laws.{length-decode, at-decode}
-use Rattle.printed.specs.TextAppended.{TextAppended}
+use Rattle.printed_text.specs.TextAppended.{TextAppended}
 use Rattle.printed.proofs.Laws.{recordLineAt, length-record, each-none, line-fits, append-each, each-done}
 use Rattle.printed.proofs.append_records.Statement.{statement}
 use Rattle.printed.proofs.append_records.Tie as tie

@@ -1,8 +1,0 @@
--- The lengths of a stored case fit the buffers.
-use Prim.Native.Nat.{ℕ, _≤_}
-use Rattle.replay.specs.declared.stored.Next.{Next}
-use Rattle.replay.specs.declared.stored.Next.the-variants.{Read, End}
-
-abbrev pub CaseFits : ℕ → Next → Type 0
-CaseFits n (Read c) = (c .input ≤ n) × (c .table ≤ 64000) × (c .faults ≤ 64000)
-CaseFits n End = Unit {0}
