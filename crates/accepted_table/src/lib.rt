@@ -18,7 +18,7 @@ ghost use Rattle.accepted_table.specs.Wrote.{Wrote};
 const SMALL_LENGTH: usize = RECORD_LENGTH * 2 * FEW_RECORDS;
 
 // What came of writing the table: a reply, or that the buffer is too short for the inlined table.
-pub enum Written {
+enum Written {
     Done(Reply),
     Short,
 }

@@ -12,7 +12,6 @@ use Rattle.rules.specs.Table.{recordAt, records, decode}
 use Rattle.rules.specs.Places.{holdsAt, firstFrom, memberCount}
 use Rattle.rules.specs.DeclIdentifiers.{declRecords, allRecords}
 use Rattle.rules.specs.declared.Record.{Record}
-use Rattle.rules.specs.declared.Found.{Found}
 use Rattle.rules.specs.declared.Found.the-variants.{At, Nothing}
 use Rattle.rules.specs.declared.Target.the-variants.{Decl}
 use Rattle.table.proofs.Laws.{length-decode, first-in}

@@ -29,7 +29,7 @@ use Rattle.table.proofs.Laws.{at-inj, first-in}
 use Rattle.decl_order.specs.Reachability.{Reaches, one, step, Faultless}
 use Rattle.table.proofs.Searches.{false-true, and-true, nothing-at, first-is, first-some}
 use Rattle.decl_order.proofs.Accepts.{accepted}
-use Rattle.decl_order.proofs.Sorted.{ListedAtStart, in-order, topological, faultless, follow-inj, follow-wrong, follow-nowhere, wrong-nowhere}
+use Rattle.decl_order.proofs.Sorted.{ListedInOrder, in-order, topological, faultless, follow-inj, follow-wrong, follow-nowhere, wrong-nowhere}
 
 -- ---- tests
 
@@ -114,41 +114,41 @@ module _ (rs : List Record) where
   -- ---- what a name makes: what it should, or a fault
 
   -- the name x leads to a declaration e with P e, and r is y e; or it does not, and r is a fault
-  data OrderResult (P : ℕ → Type 0) (y : ℕ → Reference) (x : ℕ) (r : Reference) : Type 0 where
-    good : (e : ℕ) → declNamed rs x ≡ At e → P e → r ≡ y e → OrderResult P y x r
-    bad : (c p : ℕ) → r ≡ Wrong c p → ((e : ℕ) → declNamed rs x ≡ At e → P e → ⊥) → OrderResult P y x r
+  data NameOutcome (P : ℕ → Type 0) (y : ℕ → Reference) (x : ℕ) (r : Reference) : Type 0 where
+    good : (e : ℕ) → declNamed rs x ≡ At e → P e → r ≡ y e → NameOutcome P y x r
+    bad : (c p : ℕ) → r ≡ Wrong c p → ((e : ℕ) → declNamed rs x ≡ At e → P e → ⊥) → NameOutcome P y x r
 
-  missing : {P : ℕ → Type 0} {y : ℕ → Reference} {x c p : ℕ} → declNamed rs x ≡ Nothing → OrderResult P y x (Wrong c p)
+  missing : {P : ℕ → Type 0} {y : ℕ → Reference} {x c p : ℕ} → declNamed rs x ≡ Nothing → NameOutcome P y x (Wrong c p)
   missing {c = c} {p = p} h = bad c p refl (λ e g k. nothing-at (sym h ∙ g))
 
   same-kind : (k : ℕ) (y : ℕ → Reference) (c p x e : ℕ) → declNamed rs x ≡ At e → (b : Bool) → eqb (at rs e .kind) k ≡ b
-      → OrderResult (λ e. at rs e .kind ≡ k) y x (if b then y e else Wrong c p)
+      → NameOutcome (λ e. at rs e .kind ≡ k) y x (if b then y e else Wrong c p)
   same-kind k y c p x e h true g = good e h (eqb-true (at rs e .kind) k g) refl
   same-kind k y c p x e h false g =
       bad c p refl (λ d m z. eqb-false (at rs e .kind) k g (ap (λ (i : ℕ). at rs i .kind) (at-inj (sym h ∙ m)) ∙ z))
 
   other-kind : (k : ℕ) (y : ℕ → Reference) (c p x e : ℕ) → declNamed rs x ≡ At e → (b : Bool) → eqb (at rs e .kind) k ≡ b
-      → OrderResult (λ e. ¬ (at rs e .kind ≡ k)) y x (if b then Wrong c p else y e)
+      → NameOutcome (λ e. ¬ (at rs e .kind ≡ k)) y x (if b then Wrong c p else y e)
   other-kind k y c p x e h true g =
       bad c p refl (λ d m z. z (ap (λ (i : ℕ). at rs i .kind) (at-inj (sym m ∙ h)) ∙ eqb-true (at rs e .kind) k g))
   other-kind k y c p x e h false g = good e h (eqb-false (at rs e .kind) k g) refl
 
-  group-outcome : (p x : ℕ) (f : Found) → declNamed rs x ≡ f → OrderResult (λ e. at rs e .kind ≡ kind.group) Follow x (groupReference rs p f)
+  group-outcome : (p x : ℕ) (f : Found) → declNamed rs x ≡ f → NameOutcome (λ e. at rs e .kind ≡ kind.group) Follow x (groupReference rs p f)
   unfolding groupReference
   group-outcome p x Nothing h = missing h
   group-outcome p x (At e) h = same-kind kind.group Follow 4 p x e h _ refl
 
-  type-outcome : (b : Bool) (p x : ℕ) (f : Found) → declNamed rs x ≡ f → OrderResult (λ e. ¬ (at rs e .kind ≡ kind.packet)) (λ e. if b then Follow e else Nowhere) x (typeReference b rs p f)
+  type-outcome : (b : Bool) (p x : ℕ) (f : Found) → declNamed rs x ≡ f → NameOutcome (λ e. ¬ (at rs e .kind ≡ kind.packet)) (λ e. if b then Follow e else Nowhere) x (typeReference b rs p f)
   unfolding typeReference
   type-outcome b p x Nothing h = missing h
   type-outcome b p x (At e) h = other-kind kind.packet (λ e. if b then Follow e else Nowhere) 6 p x e h _ refl
 
-  parent-outcome : (d x : ℕ) (f : Found) → declNamed rs x ≡ f → OrderResult (λ e. at rs e .kind ≡ at rs d .kind) Follow x (parentReference rs d f)
+  parent-outcome : (d x : ℕ) (f : Found) → declNamed rs x ≡ f → NameOutcome (λ e. at rs e .kind ≡ at rs d .kind) Follow x (parentReference rs d f)
   unfolding parentReference
   parent-outcome d x Nothing h = missing h
   parent-outcome d x (At e) h = same-kind (at rs d .kind) Follow 8 d x e h _ refl
 
-  test-outcome : (p x : ℕ) (f : Found) → declNamed rs x ≡ f → OrderResult (λ e. at rs e .kind ≡ kind.packet) (λ e. Nowhere) x (testReference rs p f)
+  test-outcome : (p x : ℕ) (f : Found) → declNamed rs x ≡ f → NameOutcome (λ e. at rs e .kind ≡ kind.packet) (λ e. Nowhere) x (testReference rs p f)
   unfolding testReference
   test-outcome p x Nothing h = missing h
   test-outcome p x (At e) h = same-kind kind.packet (λ e. Nowhere) 10 p x e h _ refl
@@ -229,11 +229,11 @@ module _ (rs : List Record) where
 
   -- ---- a visit is of a followed reference
 
-  follow-found : {P : ℕ → Type 0} {x e : ℕ} {r : Reference} → OrderResult P Follow x r → Follow e ≡ r → Named rs x e
+  follow-found : {P : ℕ → Type 0} {x e : ℕ} {r : Reference} → NameOutcome P Follow x r → Follow e ≡ r → Named rs x e
   follow-found {x = x} {e = e} (good d h p q) g = subst (λ (z : ℕ). Named rs x z) (sym (follow-inj (g ∙ q))) (found x d h)
   follow-found (bad c p q n) g = absurd (follow-wrong (sym (g ∙ q)))
 
-  follow-typed : {P : ℕ → Type 0} (b : Bool) {x e : ℕ} {r : Reference} → OrderResult P (λ e. if b then Follow e else Nowhere) x r → Follow e ≡ r → (b ≡ true) × Named rs x e
+  follow-typed : {P : ℕ → Type 0} (b : Bool) {x e : ℕ} {r : Reference} → NameOutcome P (λ e. if b then Follow e else Nowhere) x r → Follow e ≡ r → (b ≡ true) × Named rs x e
   follow-typed true o g = (refl, follow-found o g)
   follow-typed false (good d h p q) g = absurd (follow-nowhere (g ∙ q))
   follow-typed false (bad c p q n) g = absurd (follow-wrong (sym (g ∙ q)))
@@ -286,7 +286,7 @@ module _ (rs : List Record) where
   declared-root : (d : ℕ) → List·Memᴰ (Follow d) roots → Declared rs d
   declared-root d m = let h = root-of (Follow d) m in go (h .0) (h .1) (h .2)
     where
-      tested : (p : ℕ) → OrderResult (λ e. at rs e .kind ≡ kind.packet) (λ e. Nowhere) (at rs p .second) (Follow d) → Declared rs d
+      tested : (p : ℕ) → NameOutcome (λ e. at rs e .kind ≡ kind.packet) (λ e. Nowhere) (at rs p .second) (Follow d) → Declared rs d
       tested p (good e h k q) = absurd (follow-nowhere q)
       tested p (bad c q g n) = absurd (follow-wrong (sym g))
 
@@ -320,7 +320,7 @@ module _ (rs : List Record) where
   unfolding order visited
   listed-declared a d m = declared-root d (topological (length rs) (references rs) roots closed below (no-faults a) .only d m)
 
-  pub listed-in-order : Accepts rs → ListedAtStart (references rs) (order rs)
+  pub listed-in-order : Accepts rs → ListedInOrder (references rs) (order rs)
   unfolding order visited
   listed-in-order a = in-order (length rs) (references rs) roots closed below (no-faults a)
 
@@ -328,7 +328,7 @@ module _ (rs : List Record) where
 
   module _ (u : UniqueNames rs) where
     -- an allowed name makes no fault
-    no-wrong : {P : ℕ → Type 0} {y : ℕ → Reference} {x c q : ℕ} {r : Reference} → ((e : ℕ) × Named rs x e × P e) → ((e : ℕ) → Wrong c q ≡ y e → ⊥) → OrderResult P y x r → Wrong c q ≡ r → ⊥
+    no-wrong : {P : ℕ → Type 0} {y : ℕ → Reference} {x c q : ℕ} {r : Reference} → ((e : ℕ) × Named rs x e × P e) → ((e : ℕ) → Wrong c q ≡ y e → ⊥) → NameOutcome P y x r → Wrong c q ≡ r → ⊥
     no-wrong a n (good e h p z) g = n e (g ∙ z)
     no-wrong {x = x} a n (bad c p z w) g = w (a .0) (find-named u x (a .0) (a .1)) (a .2)
 
@@ -352,13 +352,13 @@ module _ (rs : List Record) where
 
     -- a name that makes no fault is allowed
     allowed-of : {P : ℕ → Type 0} {y : ℕ → Reference} {x : ℕ} {r : Reference} {l : List Reference} → ((c q : ℕ) → List·Memᴰ (Wrong c q) l → ⊥) → List·Memᴰ r l
-        → OrderResult P y x r → (e : ℕ) × Named rs x e × P e
+        → NameOutcome P y x r → (e : ℕ) × Named rs x e × P e
     allowed-of {x = x} q m (good e h p z) = (e, found x e h, p)
     allowed-of q m (bad c p z n) = absurd (q c p (Memᴰ·cast (sym z) m))
 
     -- a followed reference without a fault makes a visit
     follow-of : {P : ℕ → Type 0} {x e : ℕ} {r : Reference} {l : List Reference} → ((c q : ℕ) → List·Memᴰ (Wrong c q) l → ⊥) → List·Memᴰ r l → Named rs x e
-        → OrderResult P Follow x r → List·Memᴰ (Follow e) l
+        → NameOutcome P Follow x r → List·Memᴰ (Follow e) l
     follow-of {x = x} {e = e} q m n (good d h p z) = Memᴰ·cast (ap Follow (at-inj (sym (find-named u x e n) ∙ h)) ∙ sym z) m
     follow-of q m n (bad c p z w) = absurd (q c p (Memᴰ·cast (sym z) m))
 

@@ -21,7 +21,7 @@ use Rattle.rules.specs.declared.Target.the-variants.{Decl}
 use Rattle.rules.specs.declared.Reference.{Reference}
 use Rattle.table.proofs.Laws.{first-in}
 use Rattle.table.proofs.Searches.{and-true}
-use Rattle.decl_order.proofs.Sorted.{ListedAtStart, none, more}
+use Rattle.decl_order.proofs.Sorted.{ListedInOrder, none, more}
 use Rattle.decl_order.proofs.Promise.{listed-declared, listed-in-order}
 use Rattle.decl_order.proofs.Copies.{decl-length, records-snoc}
 
@@ -51,7 +51,7 @@ sumAt-snoc : (ws l : List ℕ) (d : ℕ) → sumAt ws (l ++ d ∷ []) ≡ sumAt 
 sumAt-snoc ws [] d = omega arith
 sumAt-snoc ws (x ∷ l) d = let h = sumAt-snoc ws l d in omega arith
 
-sumAt-below : {f : ℕ → List Reference} {l : List ℕ} → ListedAtStart f l → (ws : List ℕ) → sumAt ws l ≤ sum ws
+sumAt-below : {f : ℕ → List Reference} {l : List ℕ} → ListedInOrder f l → (ws : List ℕ) → sumAt ws l ≤ sum ws
 sumAt-below none ws = zero-le
 sumAt-below (more {l = l} {d = d} o a q u) ws =
     let h = sumAt-below o (set ws d 0) in
@@ -105,7 +105,7 @@ module _ (rs : List Record) where
       let b = and-true (leb 1 (at rs d .kind)) (leb (at rs d .kind) 6) (h .1) in
       rw (b .0, le-leb (at rs d .kind) 7 (let z = leb-true (at rs d .kind) 6 (b .1) in omega arith))
 
-  decls-length : {f : ℕ → List Reference} {l : List ℕ} → ListedAtStart f l → ((d : ℕ) → List·Memᴰ d l → Declared rs d) → length (allRecords rs l) ≡ sumAt (sizes 0 (length rs)) l
+  decls-length : {f : ℕ → List Reference} {l : List ℕ} → ListedInOrder f l → ((d : ℕ) → List·Memᴰ d l → Declared rs d) → length (allRecords rs l) ≡ sumAt (sizes 0 (length rs)) l
   unfolding allRecords
   decls-length none h = refl
   decls-length (more {l = l} {d = d} o a q u) h =

@@ -47,10 +47,10 @@ visit-adds (suc k) f d s e = enter-adds (eqb (markOf s d) 0) (eqb (markOf s d) 1
 -- ---- what visits without a fault leave
 
 -- listed one by one, each once, after all that it follows, and with no fault of its own
-pub data ListedAtStart (f : ℕ → List Reference) : List ℕ → Type 0 where
-  none : ListedAtStart f []
-  more : {l : List ℕ} {d : ℕ} → ListedAtStart f l → ((e : ℕ) → List·Memᴰ (Follow e) (f d) → List·Memᴰ e l)
-      → ((c p : ℕ) → List·Memᴰ (Wrong c p) (f d) → ⊥) → (List·Memᴰ d l → ⊥) → ListedAtStart f (l ++ (d ∷ []))
+pub data ListedInOrder (f : ℕ → List Reference) : List ℕ → Type 0 where
+  none : ListedInOrder f []
+  more : {l : List ℕ} {d : ℕ} → ListedInOrder f l → ((e : ℕ) → List·Memᴰ (Follow e) (f d) → List·Memᴰ e l)
+      → ((c p : ℕ) → List·Memᴰ (Wrong c p) (f d) → ⊥) → (List·Memᴰ d l → ⊥) → ListedInOrder f (l ++ (d ∷ []))
 
 pub follow-inj : {x y : ℕ} → Follow x ≡ Follow y → x ≡ y
 follow-inj e = cc
@@ -80,7 +80,7 @@ module _ (f : ℕ → List Reference) (D : ℕ → Type 0) (n : ℕ)
     legal : (i : ℕ) → markOf s i ≤ 2
     listed-in : (e : ℕ) → e < n → markOf s e ≡ 2 → List·Memᴰ e (s .order)
     in-listed : (e : ℕ) → List·Memᴰ e (s .order) → markOf s e ≡ 2
-    ordered : ListedAtStart f (s .order)
+    ordered : ListedInOrder f (s .order)
     declared : (e : ℕ) → List·Memᴰ e (s .order) → D e
 
   record Done (s s′ : State) : Type 0 where
@@ -233,7 +233,7 @@ last-or (x ∷ l) d zero h = inl (omega arith, refl)
 last-or (x ∷ l) d (suc i) h = ⊎-elim (λ y. let q = y .0 in inl (omega arith, y .1)) (λ y. inr (ap suc (y .0), y .1)) (last-or l d i (omega arith))
 
 module _ {f : ℕ → List Reference} where
-  once : {l : List ℕ} → ListedAtStart f l → (i j : ℕ) → i < length l → j < length l → getD l i 0 ≡ getD l j 0 → i ≡ j
+  once : {l : List ℕ} → ListedInOrder f l → (i j : ℕ) → i < length l → j < length l → getD l i 0 ≡ getD l j 0 → i ≡ j
   once none i j h g e = absurd (omega arith)
   once (more {l = l} {d = d} o a q u) i j h g e =
       ⊎-elim
@@ -241,7 +241,7 @@ module _ {f : ℕ → List Reference} where
       (λ x. ⊎-elim (λ y. absurd (u (Memᴰ·cast (sym (x .1) ∙ e ∙ y .1) (mem-at l j (y .0))))) (λ y. x .0 ∙ sym (y .0)) (last-or l d j g))
       (last-or l d i h)
 
-  after : {l : List ℕ} → ListedAtStart f l → (i e : ℕ) → i < length l → List·Memᴰ (Follow e) (f (getD l i 0)) → (j : ℕ) × (j < i) × (getD l j 0 ≡ e)
+  after : {l : List ℕ} → ListedInOrder f l → (i e : ℕ) → i < length l → List·Memᴰ (Follow e) (f (getD l i 0)) → (j : ℕ) × (j < i) × (getD l j 0 ≡ e)
   after none i e h m = absurd (omega arith)
   after (more {l = l} {d = d} o a q u) i e h m =
       ⊎-elim
@@ -255,23 +255,23 @@ module _ {f : ℕ → List Reference} where
       (r .0, subst (λ y. r .0 < y) (sym (x .0)) (r .1), List·getD-append l (d ∷ []) 0 (r .0) (r .1) ∙ r .2))
       (last-or l d i h)
 
-  right-in : {l : List ℕ} → ListedAtStart f l → (d : ℕ) → List·Memᴰ d l → (c p : ℕ) → List·Memᴰ (Wrong c p) (f d) → ⊥
+  right-in : {l : List ℕ} → ListedInOrder f l → (d : ℕ) → List·Memᴰ d l → (c p : ℕ) → List·Memᴰ (Wrong c p) (f d) → ⊥
   right-in none d m c p g = List·Memᴰ·not-nil m
   right-in (more {l = l} {d = x} o a q u) d m c p g =
       ⊎-elim (λ y. right-in o d y c p g) (λ y. q c p (subst (λ z. List·Memᴰ (Wrong c p) (f z)) (List·Memᴰ·eq-of-singleton y) g)) (List·Memᴰ·append-cases l m)
 
   -- what a listed declaration follows is listed
-  closed-in : {l : List ℕ} → ListedAtStart f l → (d e : ℕ) → List·Memᴰ d l → List·Memᴰ (Follow e) (f d) → List·Memᴰ e l
+  closed-in : {l : List ℕ} → ListedInOrder f l → (d e : ℕ) → List·Memᴰ d l → List·Memᴰ (Follow e) (f d) → List·Memᴰ e l
   closed-in none d e m g = absurd (List·Memᴰ·not-nil m)
   closed-in (more {l = l} {d = x} o a q u) d e m g =
       Memᴰ·append-left (x ∷ [])
       (⊎-elim (λ y. closed-in o d e y g) (λ y. a e (subst (λ z. List·Memᴰ (Follow e) (f z)) (List·Memᴰ·eq-of-singleton y) g)) (List·Memᴰ·append-cases l m))
 
-  reaches-in : {l : List ℕ} → ListedAtStart f l → {d e : ℕ} → List·Memᴰ d l → Reaches f d e → List·Memᴰ e l
+  reaches-in : {l : List ℕ} → ListedInOrder f l → {d e : ℕ} → List·Memᴰ d l → Reaches f d e → List·Memᴰ e l
   reaches-in o {d} {e} m (one g) = closed-in o d e m g
   reaches-in o {d} m (step {x = x} g w) = reaches-in o (closed-in o d x m g) w
 
-  acyclic-in : {l : List ℕ} → ListedAtStart f l → (d : ℕ) → List·Memᴰ d l → Reaches f d d → ⊥
+  acyclic-in : {l : List ℕ} → ListedInOrder f l → (d : ℕ) → List·Memᴰ d l → Reaches f d d → ⊥
   acyclic-in none d m w = List·Memᴰ·not-nil m
   acyclic-in (more {l = l} {d = x} o a q u) d m w =
       ⊎-elim (λ y. acyclic-in o d y w) (λ y. u (last-step (subst (λ z. Reaches f z z) (List·Memᴰ·eq-of-singleton y) w))) (List·Memᴰ·append-cases l m)
@@ -311,7 +311,7 @@ module _ (n : ℕ) (f : ℕ → List Reference) (roots : List Reference)
       clean
 
   -- the places are listed in order
-  pub in-order : ListedAtStart f (visitAll n f roots .order)
+  pub in-order : ListedInOrder f (visitAll n f roots .order)
   in-order = through .done .inv .ordered
 
   pub topological : TopologicalOrder f roots (visitAll n f roots .order)

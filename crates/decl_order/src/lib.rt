@@ -1,9 +1,6 @@
 // Pass 2: the visits, and, if they find no fault, the copy of the declarations in listed order.
-use rules::Found;
 use rules::Tally;
-use rules::Target;
 use rules::limits::MOST_RECORDS;
-use search::first;
 use table::NO_PLACE;
 use table::REMAINDERS;
 ghost use mathlib.Core.Path.{_≡_};

@@ -72,7 +72,7 @@ fn note(
     }
 }
 
-// Lists the place `decl`.
+// Lists `decl`.
 fn list(decl: usize, marks: &mut [u8], places: &mut [u16], progress: VisitProgress) -> VisitProgress
     requires { ⌜ (decl < length (now marks)) × (decl < 65536) × (progress .listed < length (now places)) ⌝ }
     ensures { λ r. ⌜ (r .listed ≡ progress .listed + 1) × (r .tally ≡ progress .tally) × (now (marks .exit) ≡ set (now (marks .entry)) decl 2) × (now (places .exit) ≡ set (now (places .entry)) (progress .listed) decl) ⌝ }

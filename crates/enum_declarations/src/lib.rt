@@ -1,8 +1,6 @@
 // Pass 4, `check_enum_declarations`: the tags of each enum.
 use repeats::marks::Key;
-use rules::Found;
 use rules::Tally;
-use rules::Target;
 use rules::limits::MOST_RECORDS;
 ghost use mathlib.Core.Path.{_≡_};
 ghost use Prim.Native.Nat.{_+_, _^_, _<_, _≤_};
@@ -14,7 +12,8 @@ ghost use Rattle.rules.specs.Faults.{log, logged};
 ghost use Rattle.rules.specs.EnumDeclarations.{tagsFaults, enumFaults, pass4At, pass4};
 ghost use Rattle.faults.specs.Notes.{notedAll};
 ghost use Rattle.enum_bounds.specs.Bounds.{Bounds};
-ghost use Rattle.enum_tags.specs.Enums.{TagsMarked, Prepared};
+ghost use Rattle.enum_tags.specs.Tags.{TagsMarked};
+ghost use Rattle.enum_declarations.specs.Enums.{Prepared};
 
 // The tags of the enum at `decl`, which has `tags` of them. The first `ranges` numbers are the bounds of its ranges.
 fn note_tags(

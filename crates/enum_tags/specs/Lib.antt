@@ -1,2 +1,2 @@
 pub mod Before
-pub mod Enums
+pub mod Tags

@@ -25,7 +25,7 @@ ghost use Rattle.repeats.specs.Marks.{Marked};
 ghost use Rattle.repeats.specs.declared.marks.Key.the-variants.{TagNames};
 ghost use Rattle.enum_bounds.specs.Bounds.{Bounds};
 ghost use Rattle.enum_tags.specs.Before.{rangeBefore};
-ghost use Rattle.enum_tags.specs.Enums.{TagsMarked, CheckingTag};
+ghost use Rattle.enum_tags.specs.Tags.{TagsMarked, CheckingTag};
 
 // The range that a search found.
 fn range_found(table: &[u8], found: Found) -> Record
@@ -115,7 +115,8 @@ fn note_times(fault: Fault, times: usize, tally: Tally, buffer: &mut [u8]) -> Ta
     kept
 }
 
-// 43 for each range of the enum at `decl`, which has `tags` tags, that holds the value at `place`. The first `ranges` numbers are the ranges' bounds.
+// 43 for each range of the enum at `decl`, which has `tags` tags, that holds the value at `place`. The first `ranges` numbers are the
+// ranges' bounds.
 fn note_held(
     table: &[u8],
     lows: &[u64],
@@ -221,7 +222,8 @@ pub fn after_range(table: &[u8], after: usize, place: usize) -> usize
     after
 }
 
-// The tag at `place` of the enum at `decl`, which has `tags` tags. The first `ranges` numbers are the bounds of its ranges; none stands from `after` up to `place`.
+// The tag at `place` of the enum at `decl`, which has `tags` tags. The first `ranges` numbers are the bounds of its ranges; no range
+// stands from `after` up to `place`.
 pub fn note_tag(
     table: &[u8],
     names: &[u8],

@@ -1,6 +1,7 @@
 // One fault: made of the records that it points at, and as bytes.
 use rules::Fault;
 use rules::Record;
+use rules::limits::FAULT_LENGTH;
 ghost use mathlib.Core.Path.{_≡_};
 ghost use Rattle.rules.specs.Faults.{faultBytes, single, double};
 
@@ -33,7 +34,7 @@ pub fn double(code: u16, primary: Record, secondary: Record) -> Fault
 }
 
 // The bytes of a fault.
-pub(crate) fn bytes_of(fault: Fault) -> [u8; 20]
+pub(crate) fn bytes_of(fault: Fault) -> [u8; FAULT_LENGTH]
     ensures { λ r. ⌜ r ≡ faultBytes fault ⌝ }
 {
     [

@@ -9,7 +9,8 @@ ghost use Rattle.rules.specs.Table.{decode, at};
 ghost use Rattle.rules.specs.DesugarFlags.{membersStart, entriesFrom, entriesOf, conditionAt, entriesAt, desugaredAt, desugared};
 ghost use Rattle.flag_sizes.specs.Counts.{ConditionsStamped, Counted};
 
-// Stamps with `from`, as no other declaration does, the remainders of the names that conditions give, from there to its end.
+// Stamps the remainders of the names that the conditions of a declaration give. Its members start at `from`, which is the stamp: no other
+// declaration has it.
 fn mark_conditions(table: &[u8], from: usize, marks: &mut [u16])
     requires { ⌜ (from ≤ 1600) × (4093 ≤ length (now marks)) ⌝ }
     ensures { λ _. ⌜ ConditionsStamped (decode (now (table .entry))) (now (marks .exit)) from ⌝ }
@@ -111,7 +112,7 @@ fn size_at(table: &[u8], place: usize, made: usize) -> usize
     1 + c + made
 }
 
-// The same; if a declaration stands at `place`, its conditions are marked.
+// Where the members of the declaration start that the next place stands in; if one stands at `place`, its conditions are stamped.
 fn mark_next(table: &[u8], place: usize, members: usize, marks: &mut [u16]) -> usize
     requires { ⌜ (place < 1600) × (members ≡ membersStart (decode (now table)) place) × ConditionsStamped (decode (now table)) (now marks) members ⌝ }
     ensures { λ r. ⌜ (r ≡ membersStart (decode (now (table .entry))) (place + 1)) × ConditionsStamped (decode (now (table .entry))) (now (marks .exit)) r ⌝ }

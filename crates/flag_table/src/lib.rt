@@ -31,7 +31,7 @@ fn entry_of(table: &[u8], place: usize) -> Record
     }
 }
 
-// r as a Flag.
+// `r` as a Flag.
 fn flag_of(r: Record) -> Record
     ensures { λ f. ⌜ f ≡ flagOf r ⌝ }
 {
@@ -49,7 +49,7 @@ fn flag_of(r: Record) -> Record
     }
 }
 
-// Writes r at place `count`.
+// Writes `r` at place `count`.
 fn append(out: &mut [u8], count: usize, r: Record) -> usize
     requires { ⌜ RoomForRecords (now out) count (r ∷ []) ⌝ }
     ensures { λ n. ⌜ RecordsAppended (now (out .entry)) count (r ∷ []) (now (out .exit)) n ⌝ }
@@ -98,7 +98,7 @@ fn write_own(table: &[u8], from: usize, out: &mut [u8], count: usize) -> usize
     n
 }
 
-// Writes r and the condition at `place`, if one stands there.
+// Writes `r` and the condition at `place`, if one stands there.
 fn write_head(table: &[u8], place: usize, r: Record, out: &mut [u8], count: usize) -> usize
     requires { ⌜ RoomForRecords (now out) count (r ∷ conditionAt (decode (now table)) place) ⌝ }
     ensures { λ n. ⌜ RecordsAppended (now (out .entry)) count (r ∷ conditionAt (decode (now (table .entry))) place) (now (out .exit)) n ⌝ }
@@ -111,7 +111,7 @@ fn write_head(table: &[u8], place: usize, r: Record, out: &mut [u8], count: usiz
     n
 }
 
-// Writes r, which stands at `place`, as it is, with its condition and the entries that it had.
+// Writes `r`, which stands at `place`, as it is, with its condition and the entries that it had.
 fn write_plain(table: &[u8], place: usize, r: Record, out: &mut [u8], count: usize) -> usize
     requires { ⌜ (place < 1600) × RoomForRecords (now out) count (r ∷ conditionAt (decode (now table)) (place + 1) ++ ownEntries (decode (now table)) place) ⌝ }
     ensures { λ n. ⌜ RecordsAppended (now (out .entry)) count (r ∷ conditionAt (decode (now (table .entry))) (place + 1) ++ ownEntries (decode (now (table .entry))) place) (now (out .exit)) n ⌝ }
@@ -120,7 +120,7 @@ fn write_plain(table: &[u8], place: usize, r: Record, out: &mut [u8], count: usi
     write_own(table, place + (n - count), out, n)
 }
 
-// Writes r, which stands at `place`, as a Flag with its condition and the entries made for it.
+// Writes `r`, which stands at `place`, as a Flag with its condition and the entries made for it.
 fn write_flag(
     table: &[u8],
     place: usize,

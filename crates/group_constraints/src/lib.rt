@@ -10,7 +10,7 @@ ghost use Rattle.rules.specs.Table.{decode};
 ghost use Rattle.rules.specs.InlineGroups.{lookup, fixedScalar, fixedEnum, inlinedRecord};
 ghost use Rattle.group_constraints.specs.Constraints.{constraintsFrom};
 
-// The constraint of name `name` that holds: of one name the innermost, then the last.
+// The constraint of `name` that holds: of one name the innermost, then the last.
 fn lookup(table: &[u8], env: &[u16], name: u16) -> Found
     ensures { λ r. ⌜ r ≡ lookup (decode (now (table .entry))) (now (env .entry)) name ⌝ }
 {
@@ -26,7 +26,7 @@ fn lookup(table: &[u8], env: &[u16], name: u16) -> Found
     Found::Nothing
 }
 
-// A Scalar that the constraint `constraint` fixes; `constraint` needs a value.
+// A Scalar that `constraint` fixes; it needs a value.
 fn fixed_scalar(scalar: Record, constraint: Record) -> Inlined
     ensures { λ x. ⌜ x ≡ fixedScalar scalar constraint ⌝ }
 {
@@ -47,7 +47,7 @@ fn fixed_scalar(scalar: Record, constraint: Record) -> Inlined
     }
 }
 
-// A Typedef that the constraint `constraint` fixes; `constraint` needs a tag.
+// A Typedef that `constraint` fixes; it needs a tag.
 fn fixed_enum(typedef: Record, constraint: Record) -> Inlined
     ensures { λ x. ⌜ x ≡ fixedEnum typedef constraint ⌝ }
 {
@@ -68,7 +68,7 @@ fn fixed_enum(typedef: Record, constraint: Record) -> Inlined
     }
 }
 
-// r under the constraints at the places of env.
+// `r` under the constraints at the places of `env`.
 pub fn inlined_record(table: &[u8], env: &[u16], r: Record) -> Inlined
     ensures { λ x. ⌜ x ≡ inlinedRecord (decode (now (table .entry))) (now (env .entry)) r ⌝ }
 {

@@ -8,13 +8,14 @@ ghost use mathlib.Core.Path.{_≡_};
 ghost use Prim.Native.Nat.{_+_, _<_, _≤_, min};
 ghost use lib.ListN.{length, getD};
 ghost use Rattle.rules.specs.Table.{decode};
+ghost use Rattle.rules.specs.Kinds.{groupField};
 ghost use Rattle.group_sizes.specs.GroupsFirst.{GroupsFirst};
 ghost use Rattle.group_sizes.specs.Targets.{Resolved};
 ghost use Rattle.group_sizes.specs.Sizes.{sizeHere, sizeFrom, SizingAfter, Sized, totalSize};
 
-// How many records the record of kind `kind` at `place` becomes; bound: it belongs to a group field.
+// How many records the record of `kind` at `place` becomes; `bound`: it belongs to a group field.
 fn size_here(targets: &[u16], sizes: &[u16], kind: u8, place: usize, bound: bool) -> u16
-    requires { ⌜ (place < length (now targets)) × (kind ≡ 34 → getD (now targets) place 0 < length (now sizes)) ⌝ }
+    requires { ⌜ (place < length (now targets)) × (kind ≡ groupField → getD (now targets) place 0 < length (now sizes)) ⌝ }
     ensures { λ r. ⌜ r ≡ sizeHere (now (targets .entry)) (now (sizes .entry)) kind place bound ⌝ }
 {
     if kind == kinds::GROUP_FIELD {

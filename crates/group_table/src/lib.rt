@@ -3,6 +3,7 @@ use group_constraints::inlined_record;
 use group_constraints::push_constraints;
 use kinds::is_constraint_or_condition;
 use kinds::is_kept;
+use records::record;
 use rules::FieldKey;
 use rules::Inlined;
 ghost use mathlib.Core.Path.{_≡_};
@@ -54,7 +55,7 @@ fn add(out: &mut [u8], progress: ExpandProgress, next: Inlined) -> ExpandProgres
     ExpandProgress { count: n + 1, fit }
 }
 
-// Writes what stands behind the declaration at `decl`, under the constraints at the first `count` places of env. The group of a
+// Writes what stands behind the declaration at `decl`, under the constraints at the first `top` places of `env`. The group of a
 // field is the declaration at its place of targets; one of size 0 is passed over.
 fn expand(
     table: &[u8],
@@ -62,12 +63,12 @@ fn expand(
     sizes: &[u16],
     decl: usize,
     env: &mut [u16],
-    count: usize,
+    top: usize,
     out: &mut [u8],
     progress: ExpandProgress,
 ) -> ExpandProgress
-    requires { ⌜ ExpandReady (decode (now table)) (now targets) (now sizes) decl (now env) count (now out) progress ⌝ }
-    ensures { λ z. ⌜ Expanded (decode (now (table .entry))) (now (sizes .entry)) decl (now (env .entry)) count (now (out .entry)) progress (now (env .exit)) (now (out .exit)) z ⌝ }
+    requires { ⌜ ExpandReady (decode (now table)) (now targets) (now sizes) decl (now env) top (now out) progress ⌝ }
+    ensures { λ z. ⌜ Expanded (decode (now (table .entry))) (now (sizes .entry)) decl (now (env .entry)) top (now (out .entry)) progress (now (env .exit)) (now (out .exit)) z ⌝ }
 {
     let end = table::count(table);
     let mut s = progress;
@@ -86,15 +87,11 @@ fn expand(
         if k == kinds::GROUP_FIELD {
             let g = targets[q] as usize;
             if sizes[g] != 0 {
-                let m = push_constraints(table, p, env, count);
+                let m = push_constraints(table, p, env, top);
                 s = expand(table, targets, sizes, g, env, m, out, s);
             }
         } else if !bound {
-            s = add(
-                out,
-                s,
-                inlined_record(table, &env[..count], records::record(table, q)),
-            );
+            s = add(out, s, inlined_record(table, &env[..top], record(table, q)));
         }
     }
     s
@@ -121,7 +118,7 @@ pub fn write_all(
     while d < end {
         let q = d;
         d = q + 1;
-        let r = records::record(table, q);
+        let r = record(table, q);
         if is_kept(r.kind) {
             let first = add(out, s, Inlined { made: r, fit: true });
             s = expand(table, targets, sizes, q, env, 0, out, first);

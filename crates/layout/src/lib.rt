@@ -33,7 +33,7 @@ fn constraint_stands(before2: u8, before1: u8) -> bool
                 | (before1 == kinds::CONSTRAINT)))
 }
 
-// Whether a record of kind `kind` may stand where the kinds around it are these.
+// Whether a record of `kind` may stand where the kinds around it are these.
 fn may_stand(surroundings: Around, kind: u8) -> bool
     ensures { λ r. ⌜ r ≡ stands (surroundings .decl) (surroundings .before2) (surroundings .before1) kind ⌝ }
 {
@@ -71,7 +71,7 @@ fn sound_at(table: &[u8], place: usize, surroundings: Around) -> bool
     rows::keeps_row(r) & may_stand(surroundings, r.kind)
 }
 
-// The kinds around the next place, behind a record of kind `kind`.
+// The kinds around the next place, behind a record of `kind`.
 fn step(surroundings: Around, kind: u8) -> Around
     ensures { λ r. ⌜ r ≡ after surroundings kind ⌝ }
 {

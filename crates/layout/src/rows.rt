@@ -83,13 +83,13 @@ fn row_of(kind: u8) -> Row
 fn name_fits(listed: u8, name: u16) -> bool
     ensures { λ r. ⌜ r ≡ nameFits listed name ⌝ }
 {
-    (listed == 2) | (((listed == 1) & !(name == 0)) | ((listed == 0) & (name == 0)))
+    (listed == OPT) | (((listed == LISTED) & !(name == 0)) | ((listed == NONE) & (name == 0)))
 }
 
 fn number_fits(listed: u8, mark: bool, number: u64) -> bool
     ensures { λ r. ⌜ r ≡ numberFits listed mark number ⌝ }
 {
-    (number == 0) | ((listed == 1) | ((listed == 2) & mark))
+    (number == 0) | ((listed == LISTED) | ((listed == MARKED) & mark))
 }
 
 fn key_fits(r: Record) -> bool

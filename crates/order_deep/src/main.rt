@@ -1,6 +1,7 @@
 // Orders the two deepest tables. Prints of each how many records are listed, how many faults are found and
 // which name is listed first.
 use rules::Record;
+use rules::limits::FAULT_LENGTH;
 use rules::limits::MOST_RECORDS;
 use rules::limits::TABLE_LENGTH;
 ghost use mathlib.Core.Path.{_≡_};
@@ -92,7 +93,7 @@ fn show(table: &[u8], buffer: &mut [u8], out: &mut [u8])
 fn main() {
     let mut table = [0u8; TABLE_LENGTH];
     let mut out = [0u8; TABLE_LENGTH];
-    let mut buffer = [0u8; 200];
+    let mut buffer = [0u8; 10 * FAULT_LENGTH];
     children(&mut table);
     show(&table, &mut buffer, &mut out);
     holders(&mut table);

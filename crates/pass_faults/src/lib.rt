@@ -85,7 +85,7 @@ const PADDINGS: u64 = 1u64 << kinds::PADDING;
 // The kinds of the records that a pass looks at, a bit each.
 fn looked_at(pass: u8) -> u64
     requires { ⌜ (pass ≡ 4 → ⊥) ⌝ }
-    ensures { λ kinds. ⌜ ((rs : List Record) (p : ℕ) → isAmong kinds (at rs p .kind) ≡ false → passAt pass rs p ≡ []) ⌝ }
+    ensures { λ bits. ⌜ ((rs : List Record) (p : ℕ) → isAmong bits (at rs p .kind) ≡ false → passAt pass rs p ≡ []) ⌝ }
 {
     match pass {
         1 => NAMED_DECLS,
@@ -100,14 +100,14 @@ fn looked_at(pass: u8) -> u64
 }
 
 // The first place from `from` on whose record is of one of these kinds, or the end of the table.
-fn next_of(table: &[u8], kinds: u64, from: usize) -> usize
+fn next_of(table: &[u8], bits: u64, from: usize) -> usize
     requires { ⌜ from ≤ length (decode (now table)) ⌝ }
-    ensures { λ q. ⌜ Passed kinds (decode (now (table .entry))) from q ⌝ }
+    ensures { λ q. ⌜ Passed bits (decode (now (table .entry))) from q ⌝ }
 {
     let n = table::count(table);
     let mut p = from;
     while p < n {
-        if (kinds >> (table::kind(table, p) % 64)) % 2 == 1 {
+        if (bits >> (table::kind(table, p) % 64)) % 2 == 1 {
             return p;
         }
         p += 1;
@@ -128,12 +128,12 @@ fn run_places(
     ensures { λ r. ⌜ log r (now (buffer .exit)) ≡ logged (now (buffer .entry)) (passFaults pass (decode (now (table .entry)))) ⌝ }
 {
     let n = table::count(table);
-    let kinds = looked_at(pass);
+    let bits = looked_at(pass);
     let mut tally = faults::no_faults();
-    let mut p = next_of(table, kinds, 0);
+    let mut p = next_of(table, bits, 0);
     while p < n {
         tally = note_at(pass, table, marks, elements, starts, p, tally, buffer);
-        p = next_of(table, kinds, p + 1);
+        p = next_of(table, bits, p + 1);
     }
     tally
 }

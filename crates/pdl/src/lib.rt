@@ -1,4 +1,4 @@
-// The C interface of the analyzer: console/pdl_console.h is its header.
+// The C interface of the analyzer: library/pdl.h is its header.
 mod header;
 
 ghost use mathlib.Core.Path.{_≡_};

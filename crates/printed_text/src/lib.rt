@@ -47,7 +47,7 @@ fn append_rest(text: &mut [u8], at: usize, numbers: &[u64]) -> usize
 }
 
 // A line of a word and numbers.
-pub fn append_line(text: &mut [u8], at: usize, word: &[u8], numbers: &[u64]) -> usize
+pub(crate) fn append_line(text: &mut [u8], at: usize, word: &[u8], numbers: &[u64]) -> usize
     requires { ⌜ at + length (now word) + 21 * length (now numbers) + 1 ≤ length (now text) ⌝ }
     ensures { λ r. ⌜ TextAppended (now (text .entry)) at (line (now (word .entry)) (now (numbers .entry))) (now (text .exit)) r ⌝ }
 {

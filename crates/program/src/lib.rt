@@ -38,7 +38,7 @@ fn answer_with(input: &[u8], table: &mut [u8], faults: &mut [u8], text: &mut [u8
 }
 
 // All that the program prints for an input, at the start of the text, and its length.
-pub fn answer_text(input: &[u8], text: &mut [u8]) -> usize
+fn answer_text(input: &[u8], text: &mut [u8]) -> usize
     requires { ⌜ 340000 ≤ length (now text) ⌝ }
     ensures { λ r. ⌜ TextBegins (now (text .entry)) (program (now (input .entry))) (now (text .exit)) r ⌝ }
 {

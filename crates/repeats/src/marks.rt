@@ -25,7 +25,7 @@ pub enum Key {
 // Keys are as long as values, names of two bytes among them.
 const KEY_DIVISOR: u64 = DIVISOR as u64;
 
-// Whether records of kind `kind` have such a key.
+// Whether records of `kind` have such a key.
 fn selects(key: Key, kind: u8) -> bool
     ensures { λ r. ⌜ r ≡ selects key kind ⌝ }
 {

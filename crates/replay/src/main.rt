@@ -1,6 +1,5 @@
 // Replays stored tables through parts of the analyzer: a line for each case says what the part answered.
 use pass_checks::Checked;
-use replay_cases::Case;
 use replay_cases::Next;
 use rules::Layout;
 use rules::Reply;

@@ -5,12 +5,12 @@ ghost use mathlib.Core.Path.{_≡_};
 ghost use lib.ListN.{length};
 
 // The longest input: one record more than a table may have, and a byte.
-const INPUT_LENGTH: usize = TABLE_LENGTH + RECORD_LENGTH + 1;
+const LONGEST_INPUT: usize = TABLE_LENGTH + RECORD_LENGTH + 1;
 
-pub fn input_buffer() -> [u8; INPUT_LENGTH]
+pub fn input_buffer() -> [u8; LONGEST_INPUT]
     ensures { λ r. ⌜ 64041 ≡ length r ⌝ }
 {
-    [0; INPUT_LENGTH]
+    [0; LONGEST_INPUT]
 }
 
 // A table or fault buffer as large as the program's.

@@ -7,6 +7,7 @@ use rules::codes;
 ghost use mathlib.Core.Path.{_≡_};
 ghost use Prim.Native.Nat.{_≤_};
 ghost use Rattle.rules.specs.Table.{decode};
+ghost use Rattle.rules.specs.Kinds.{size};
 ghost use Rattle.rules.specs.SizeFields.{sizeCode, sizeAgain};
 ghost use Rattle.faults.specs.Notes.{findings};
 ghost use Rattle.repeats.specs.Marks.{Marked};
@@ -14,7 +15,7 @@ ghost use Rattle.repeats.specs.declared.marks.Key.the-variants.{Sizes, ElementS
 
 // The code of a repeat, before those for missing and for no array.
 pub(crate) fn size_code(kind: u8) -> u16
-    requires { ⌜ 22 ≤ kind ⌝ }
+    requires { ⌜ size ≤ kind ⌝ }
     ensures { λ r. ⌜ r ≡ sizeCode kind ⌝ }
 {
     codes::DUPLICATE_SIZE_FIELD + 3 * ((kind - kinds::SIZE) as u16)

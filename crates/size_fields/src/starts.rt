@@ -76,7 +76,7 @@ fn step(table: &[u8], place: usize, end: usize, last: &mut [u16], starts: &mut [
     end
 }
 
-// All `starts`, from the last to the first.
+// All places of the table, from the last to the first.
 fn fill_places(table: &[u8], last: &mut [u16], starts: &mut [u16])
     requires { ⌜ (length (decode (now table)) ≤ 1600) × (now last ≡ replicate 4093 65535) × (1600 ≤ length (now starts)) × SizeStarts (decode (now table)) (now starts) ⌝ }
     ensures { λ _. ⌜ SizeStarts (decode (now (table .entry))) (now (starts .exit)) ⌝ }
@@ -89,7 +89,7 @@ fn fill_places(table: &[u8], last: &mut [u16], starts: &mut [u16])
     }
 }
 
-// Fills the `starts`, at which no start is known at first.
+// Fills `starts`, in which no start is known at first.
 pub fn fill(table: &[u8], starts: &mut [u16])
     requires { ⌜ (length (decode (now table)) ≤ 1600) × (1600 ≤ length (now starts)) × SizeStarts (decode (now table)) (now starts) ⌝ }
     ensures { λ _. ⌜ SizeStarts (decode (now (table .entry))) (now (starts .exit)) ⌝ }

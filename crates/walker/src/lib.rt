@@ -45,7 +45,7 @@ pub fn step<'a>(walker: Walker<'a>) -> Walker<'a>
     }
 }
 
-// The kind of the record behind place `place`: 0 past the end.
+// The kind of the record behind `place`: 0 past the end.
 pub fn kind_after(table: &[u8], place: usize) -> u8
     ensures { λ r. ⌜ r ≡ at (decode (now (table .entry))) (place + 1) .kind ⌝ }
 {

@@ -1,8 +1,7 @@
--- What the contracts ask where the tags of an enum are checked.
+-- What the contracts ask where a tag of an enum is checked.
 use Prim.Native.Nat.{ℕ, _+_, _^_, _<_, _≤_}
 use mathlib.Core.Path.{_≡_}
 use mathlib.Core.List.{List}
-use lib.ListN.{length}
 use Rattle.rules.specs.declared.Record.{Record}
 use Rattle.repeats.specs.Marks.{Marked}
 use Rattle.repeats.specs.declared.marks.Key.the-variants.{TagNames, TagValues}
@@ -12,11 +11,6 @@ use Rattle.enum_tags.specs.Before.{rangeBefore}
 -- names and values mark the tags that may repeat an earlier name or value
 abbrev pub TagsMarked : List Record → List ℕ → List ℕ → Type 0
 TagsMarked rs names values = Marked rs TagNames names × Marked rs TagValues values
-
--- the tags are marked, and there is room for the places and the bounds of all ranges of an enum
-abbrev pub Prepared : List Record → List ℕ → List ℕ → List ℕ → List ℕ → List ℕ → Type 0
-Prepared rs names values places lows highs =
-    Marked rs TagNames names × Marked rs TagValues values × (1600 ≤ length places) × (1600 ≤ length lows) × (1600 ≤ length highs)
 
 -- what is asked of the tag at p of the enum at d, which has n tags and m ranges: the total leaves room for its faults,
 -- and no range stands from after up to p
