@@ -13,10 +13,10 @@ use lib.ListN.{length, getD, set, replicate, length-append, length-set, length-r
 use lib.Seq.{getD-set-same, getD-set-other}
 use Rattle.rules.specs.declared.Reference.{Reference}
 use Rattle.rules.specs.declared.Reference.the-variants.{Nowhere, Wrong, Follow}
-use Rattle.rules.specs.Visits.{PlaceFault, State, markOf, opened, noted, listed, walk, enter, visit, unvisited, visitAll}
+use Rattle.rules.specs.Visits.{PlaceFault, State, markOf, opened, faulted, listed, walk, enter, visit, unvisited, visitAll}
 use Rattle.decl_visits.specs.Contract.{unvisitedCount}
 use Rattle.decl_order.specs.Reachability.{Reaches, one, step, TopologicalOrder, Faultless}
-use Rattle.decl_visits.proofs.Bounds.{unvisited-set, unvisited-opened, unvisited-all}
+use Rattle.decl_visits.proofs.Growth.{unvisited-set, unvisited-opened, unvisited-all}
 
 -- ---- faults are only ever added
 
@@ -30,7 +30,7 @@ walk-adds : (v : ℕ → State → State) → Adds v → (l : List Reference) (s
 unfolding walk
 walk-adds v h [] s e = e
 walk-adds v h (Nowhere ∷ l) s e = walk-adds v h l s e
-walk-adds v h (Wrong c p ∷ l) s e = absurd (snoc-nil (s .faults) (record { code = c; place = p }) (walk-adds v h l (noted c p s) e))
+walk-adds v h (Wrong c p ∷ l) s e = absurd (snoc-nil (s .faults) (record { code = c; place = p }) (walk-adds v h l (faulted c p s) e))
 walk-adds v h (Follow x ∷ l) s e = h x s (walk-adds v h l (v x s) e)
 
 enter-adds : (b b′ : Bool) (v : ℕ → State → State) → Adds v → (l : List Reference) (d : ℕ) (s : State) → enter b b′ v l d s .faults ≡ [] → s .faults ≡ []
@@ -91,13 +91,13 @@ module _ (f : ℕ → List Reference) (D : ℕ → Type 0) (n : ℕ)
   abbrev Sorts : (ℕ → State → State) → ℕ → Type 0
   Sorts v k = (d : ℕ) (s : State) → D d → unvisitedCount (s .marks) < k → Inv s → v d s .faults ≡ [] → Done s (v d s) × (markOf (v d s) d ≡ 2)
 
-  record Walked (l : List Reference) (s s′ : State) : Type 0 where
+  record SortedWalk (l : List Reference) (s s′ : State) : Type 0 where
     done : Done s s′
     all : (e : ℕ) → List·Memᴰ (Follow e) l → markOf s′ e ≡ 2
     right : (c p : ℕ) → List·Memᴰ (Wrong c p) l → ⊥
 
   walk-sorts : (v : ℕ → State → State) (k : ℕ) → Sorts v k → Adds v → (l : List Reference) (s : State) → ((e : ℕ) → List·Memᴰ (Follow e) l → D e)
-      → unvisitedCount (s .marks) < k → Inv s → walk v l s .faults ≡ [] → Walked l s (walk v l s)
+      → unvisitedCount (s .marks) < k → Inv s → walk v l s .faults ≡ [] → SortedWalk l s (walk v l s)
   unfolding walk
   walk-sorts v k h a [] s w q i z = record {
     done = record { inv = i; keeps = λ _ _. refl; falls = le-refl (unvisitedCount (s .marks)) };
@@ -111,7 +111,7 @@ module _ (f : ℕ → List Reference) (D : ℕ → Type 0) (n : ℕ)
         all = λ e m. ⊎-elim (λ y. absurd (follow-nowhere y)) (r .all e) (List·Memᴰ·cases-cons m);
         right = λ c p m. ⊎-elim (λ y. wrong-nowhere y) (r .right c p) (List·Memᴰ·cases-cons m);
       }
-  walk-sorts v k h a (Wrong c p ∷ l) s w q i z = absurd (snoc-nil (s .faults) (record { code = c; place = p }) (walk-adds v a l (noted c p s) z))
+  walk-sorts v k h a (Wrong c p ∷ l) s w q i z = absurd (snoc-nil (s .faults) (record { code = c; place = p }) (walk-adds v a l (faulted c p s) z))
   walk-sorts v k h a (Follow x ∷ l) s w q i z =
       let b = h x s (w x (List·Memᴰ·head refl)) q i (walk-adds v a l (v x s) z) in
       let g = b .0 .falls in
@@ -294,7 +294,7 @@ module _ (n : ℕ) (f : ℕ → List Reference) (roots : List Reference)
   abbrev D : ℕ → Type 0
   D d = List·Memᴰ (Follow d) roots
 
-  through : Walked f D n closed below roots (unvisited n) (visitAll n f roots)
+  through : SortedWalk f D n closed below roots (unvisited n) (visitAll n f roots)
   unfolding visitAll
   through =
       let fr = unvisited-all n in

@@ -1,4 +1,4 @@
-pub mod Bounds
+pub mod Growth
 pub mod Skips
 pub mod VisitReady
 pub mod Loop

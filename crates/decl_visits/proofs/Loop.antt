@@ -14,7 +14,7 @@ use Rattle.faults.specs.Notes.{none}
 use Rattle.faults.proofs.Laws.{noted-none}
 use Rattle.decl_visits.specs.declared.VisitProgress.{VisitProgress}
 use Rattle.decl_visits.specs.Contract.{unvisitedCount, Held, VisitReady, Visited}
-use Rattle.decl_visits.proofs.Bounds.{unvisited-all, resolve-bounds, walk-bounds, visit-bounds, references-length}
+use Rattle.decl_visits.proofs.Growth.{unvisited-all, resolve-growth, walk-growth, visit-growth, references-length}
 use Rattle.decl_visits.proofs.VisitReady.{after}
 
 unvisited-few : (l : List ℕ) → unvisitedCount l ≤ length l
@@ -98,7 +98,7 @@ module _ (rs : List Record) (o₀ f₀ m o f : List ℕ) (a : VisitProgress) (p 
         let k = suc (length rs) in
         let q = rootReference rs p in
         let held′ = v k o₀ f₀ (h .state) (omega arith) (h .held) in
-        let b = resolve-bounds (visit k (references rs)) (visit-bounds (references rs) (λ d. references-length rs d (h .few)) k) q (h .state) in
+        let b = resolve-growth (visit k (references rs)) (visit-growth (references rs) (λ d. references-length rs d (h .few)) k) q (h .state) in
         let r = after rs m o f a m′ o′ f′ a′ (length rs - (p + 1)) 0 1 (ready (length rs - (p + 1) + 1) (omega arith)) (resolve (visit k (references rs)) q (h .state)) held′ b lo in
         let z : length rs - p ≡ suc (length rs - (p + 1)) = omega arith in
         record {
@@ -119,7 +119,7 @@ pub order-short : (rs : List Record) → length rs ≤ 1600 → length (visited 
 unfolding visited visitAll
 order-short rs few =
     let k = suc (length rs) in
-    let b = walk-bounds (visit k (references rs)) (visit-bounds (references rs) (λ d. references-length rs d few) k) (rootReferences rs 0 (length rs)) (unvisited (length rs)) .room in
+    let b = walk-growth (visit k (references rs)) (visit-growth (references rs) (λ d. references-length rs d few) k) (rootReferences rs 0 (length rs)) (unvisited (length rs)) .room in
     let n = unvisited-all (length rs) in
     omega arith
 

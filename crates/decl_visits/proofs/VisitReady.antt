@@ -15,7 +15,7 @@ use Rattle.rules.specs.Kinds.{is, isNamedDecl, isPacketOrStruct}
 use Rattle.rules.specs.Table.{at, bit1, named}
 use Rattle.rules.specs.Places.{holdsAt, declNamed}
 use Rattle.rules.specs.Faults.{single, log}
-use Rattle.rules.specs.Visits.{State, markOf, opened, noted, listed, resolve, walk, enter, visit}
+use Rattle.rules.specs.Visits.{State, markOf, opened, faulted, listed, resolve, walk, enter, visit}
 use Rattle.rules.specs.DeclIdentifiers.{groupReference, typeReference, parentReference, testReference, fieldReference, ownReference, rootReference, fieldReferences, references, faultOf}
 use Rattle.rules.specs.declared.Record.{Record}
 use Rattle.rules.specs.declared.Found.{Found}
@@ -30,7 +30,7 @@ use Rattle.faults.proofs.Laws.{noted-then, noted-one, total-after}
 use Rattle.table.proofs.Laws.{first-in}
 use Rattle.decl_visits.specs.declared.VisitProgress.{VisitProgress}
 use Rattle.decl_visits.specs.Contract.{unvisitedCount, memberAt, Within, Held, VisitReady, Visited, Walked, Skipped}
-use Rattle.decl_visits.proofs.Bounds.{Bounds, member-below, unvisited-opened, getD-any, resolve-bounds, walk-bounds, visit-bounds, fields-one, fields-none, fields-length, references-length}
+use Rattle.decl_visits.proofs.Growth.{Growth, member-below, unvisited-opened, getD-any, resolve-growth, walk-growth, visit-growth, fields-one, fields-none, fields-length, references-length}
 
 -- ---- how each step of the code changes the state that the slices hold
 
@@ -54,7 +54,7 @@ module _ (rs : List Record) (o₀ f₀ : List ℕ) (s : State) (m o f : List ℕ
     faults-are = h .faults-are;
   }
 
-  held-note : (c p : ℕ) (f′ : List ℕ) (b : VisitProgress) → Noted rs f a c p f′ b → Held rs o₀ f₀ (noted c p s) m o f′ b
+  held-note : (c p : ℕ) (f′ : List ℕ) (b : VisitProgress) → Noted rs f a c p f′ b → Held rs o₀ f₀ (faulted c p s) m o f′ b
   held-note c p f′ b e = record {
     marks-are = h .marks-are;
     places-are = h .places-are;
@@ -107,8 +107,8 @@ module _ (rs : List Record) (m o f : List ℕ) (a : VisitProgress) where
       }
 
   module _ (m′ o′ f′ : List ℕ) (a′ : VisitProgress) where
-    -- the slices now hold a state s′ that keeps the bounds
-    pub after : (x y z : ℕ) (h : VisitReady rs m o f a (x + z) y) (s′ : State) → Held rs (h .places₀) (h .buffer₀) s′ m′ o′ f′ a′ → Bounds (h .state) s′ z
+    -- the slices now hold a state s′ that has grown by no more
+    pub after : (x y z : ℕ) (h : VisitReady rs m o f a (x + z) y) (s′ : State) → Held rs (h .places₀) (h .buffer₀) s′ m′ o′ f′ a′ → Growth (h .state) s′ z
         → length o′ ≡ length o → VisitReady rs m′ o′ f′ a′ x y
     after x y z h s′ e b l =
         let e₀ = ap unvisitedCount (h .held .marks-are) in
@@ -136,35 +136,35 @@ module _ (rs : List Record) (m o f : List ℕ) (a : VisitProgress) where
         → Held rs (h .places₀) (h .buffer₀) (resolve (visit (suc (unvisitedCount m)) (references rs)) r (h .state)) m′ o′ f′ a′
     visit-made r h v = v (suc (unvisitedCount m)) (h .places₀) (h .buffer₀) (h .state) (lt-suc-self (unvisitedCount m)) (h .held)
 
-    visit-bound : (r : Reference) {x y : ℕ} (h : VisitReady rs m o f a x y) → Bounds (h .state) (resolve (visit (suc (unvisitedCount m)) (references rs)) r (h .state)) 1
-    visit-bound r h = resolve-bounds (visit (suc (unvisitedCount m)) (references rs)) (visit-bounds (references rs) (λ d. references-length rs d (h .few)) (suc (unvisitedCount m))) r (h .state)
+    visit-growth-at : (r : Reference) {x y : ℕ} (h : VisitReady rs m o f a x y) → Growth (h .state) (resolve (visit (suc (unvisitedCount m)) (references rs)) r (h .state)) 1
+    visit-growth-at r h = resolve-growth (visit (suc (unvisitedCount m)) (references rs)) (visit-growth (references rs) (λ d. references-length rs d (h .few)) (suc (unvisitedCount m))) r (h .state)
 
     after-visit : (r : Reference) (x y : ℕ) → VisitReady rs m o f a (x + 1) y → Visited rs r m o f a m′ o′ f′ a′ → length o′ ≡ length o → VisitReady rs m′ o′ f′ a′ x y
-    after-visit r x y h v l = after x y 1 h _ (visit-made r h v) (visit-bound r h) l
+    after-visit r x y h v l = after x y 1 h _ (visit-made r h v) (visit-growth-at r h) l
 
     visit-falls : (r : Reference) {x y : ℕ} → VisitReady rs m o f a x y → Visited rs r m o f a m′ o′ f′ a′ → unvisitedCount m′ ≤ unvisitedCount m
     visit-falls r h v =
         let e₀ = ap unvisitedCount (h .held .marks-are) in
         let e₁ = ap unvisitedCount (visit-made r h v .marks-are) in
-        let b = visit-bound r h .falls in
+        let b = visit-growth-at r h .falls in
         omega arith
 
     walk-made : (p : ℕ) {x y : ℕ} (h : VisitReady rs m o f a x y) → Walked rs p m o f a m′ o′ f′ a′
         → Held rs (h .places₀) (h .buffer₀) (walk (visit (suc (unvisitedCount m)) (references rs)) (fieldReferences rs p (length rs - p)) (h .state)) m′ o′ f′ a′
     walk-made p h v = v (suc (unvisitedCount m)) (h .places₀) (h .buffer₀) (h .state) (lt-suc-self (unvisitedCount m)) (h .held)
 
-    walk-bound : (p : ℕ) {x y : ℕ} (h : VisitReady rs m o f a x y)
-        → Bounds (h .state) (walk (visit (suc (unvisitedCount m)) (references rs)) (fieldReferences rs p (length rs - p)) (h .state)) (length (fieldReferences rs p (length rs - p)))
-    walk-bound p h = walk-bounds (visit (suc (unvisitedCount m)) (references rs)) (visit-bounds (references rs) (λ d. references-length rs d (h .few)) (suc (unvisitedCount m))) (fieldReferences rs p (length rs - p)) (h .state)
+    walk-growth-at : (p : ℕ) {x y : ℕ} (h : VisitReady rs m o f a x y)
+        → Growth (h .state) (walk (visit (suc (unvisitedCount m)) (references rs)) (fieldReferences rs p (length rs - p)) (h .state)) (length (fieldReferences rs p (length rs - p)))
+    walk-growth-at p h = walk-growth (visit (suc (unvisitedCount m)) (references rs)) (visit-growth (references rs) (λ d. references-length rs d (h .few)) (suc (unvisitedCount m))) (fieldReferences rs p (length rs - p)) (h .state)
 
     after-walk : (p x y : ℕ) → VisitReady rs m o f a (x + length (fieldReferences rs p (length rs - p))) y → Walked rs p m o f a m′ o′ f′ a′ → length o′ ≡ length o → VisitReady rs m′ o′ f′ a′ x y
-    after-walk p x y h v l = after x y (length (fieldReferences rs p (length rs - p))) h _ (walk-made p h v) (walk-bound p h) l
+    after-walk p x y h v l = after x y (length (fieldReferences rs p (length rs - p))) h _ (walk-made p h v) (walk-growth-at p h) l
 
     walk-falls : (p : ℕ) {x y : ℕ} → VisitReady rs m o f a x y → Walked rs p m o f a m′ o′ f′ a′ → unvisitedCount m′ ≤ unvisitedCount m
     walk-falls p h v =
         let e₀ = ap unvisitedCount (h .held .marks-are) in
         let e₁ = ap unvisitedCount (walk-made p h v .marks-are) in
-        let b = walk-bound p h .falls in
+        let b = walk-growth-at p h .falls in
         omega arith
 
 -- ---- a declaration to visit stands in the table
@@ -238,7 +238,7 @@ visit-new : (rs : List Record) (k d : ℕ) (s : State) → markOf s d ≡ 0
 unfolding visit enter references
 visit-new rs k d s e = rw (e, visit) (ap (listed d) (walk-last (visit k (references rs)) (fieldReferences rs (d + 1) (length rs - (d + 1))) (ownReference rs d) (opened d s)))
 
-visit-open : (f : ℕ → List Reference) (k d : ℕ) (s : State) → markOf s d ≡ 1 → visit (suc k) f d s ≡ noted 2 d s
+visit-open : (f : ℕ → List Reference) (k d : ℕ) (s : State) → markOf s d ≡ 1 → visit (suc k) f d s ≡ faulted 2 d s
 unfolding visit enter
 visit-open f k d s e = rw (e, visit)
 

@@ -1,12 +1,12 @@
 -- What the contracts of the visits say: which state the lent slices hold.
 use mathlib.Core.Path.{_≡_}
-use mathlib.Core.Bool.{Bool, _&&_, _||_, not}
+use mathlib.Core.Bool.{Bool, _&&_, not}
 use mathlib.Core.List.{List, [], _∷_, map}
 use Prim.Native.Nat.{ℕ, zero, suc, _+_, _*_, _-_, _^_, _<_, _≤_}
-use lib.Dec.{eqb, ltb, leb}
+use lib.Dec.{ltb}
 use lib.ListN.{length}
 use lib.Seq.{sets}
-use Rattle.rules.specs.Kinds.{isDecl, array, typedef, groupField}
+use Rattle.rules.specs.Kinds.{isDecl, mayRefer}
 use Rattle.rules.specs.Table.{at}
 use Rattle.rules.specs.Faults.{log}
 use Rattle.rules.specs.Visits.{State, resolve, walk, visit}
@@ -27,13 +27,9 @@ unvisitedCount (suc m ∷ l) = unvisitedCount l
 abbrev pub memberAt : List Record → ℕ → Bool
 memberAt rs p = ltb p (length rs) && not (isDecl (at rs p .kind))
 
--- an array, a Typedef or a Group field may refer to a declaration
-abbrev pub refers : ℕ → Bool
-refers k = eqb k array || leb typedef k && leb k groupField
-
 -- a record stands at p, it is no declaration, and its kind refers to nothing
 abbrev pub refersNowhere : List Record → ℕ → Bool
-refersNowhere rs p = memberAt rs p && not (refers (at rs p .kind))
+refersNowhere rs p = memberAt rs p && not (mayRefer (at rs p .kind))
 
 -- the slices and the counts hold the state s; the places and the fault buffer were o₀ and f₀
 pub record Held (rs : List Record) (o₀ f₀ : List ℕ) (s : State) (marks places buffer : List ℕ) (a : VisitProgress) : Type 0 where

@@ -36,8 +36,7 @@ fn refers_nowhere(table: &[u8], place: usize) -> bool
     ensures { λ r. ⌜ r ≡ refersNowhere (decode (now (table .entry))) place ⌝ }
 {
     let k = table::kind(table, place);
-    member_at(table, place)
-        & !((k == kinds::ARRAY) | ((kinds::TYPEDEF <= k) & (k <= kinds::GROUP_FIELD)))
+    member_at(table, place) & !kinds::may_refer(k)
 }
 
 // The first place from `place` on that is not such a record. This loop saves the walk a call for each of them.

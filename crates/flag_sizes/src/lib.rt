@@ -100,8 +100,7 @@ fn size_at(table: &[u8], place: usize, made: usize) -> usize
     requires { ⌜ (length (decode (now table)) ≤ 1600) × (place < length (decode (now table))) × (made ≡ length (entriesOf (decode (now table)) (at (decode (now table)) place) (membersStart (decode (now table)) place))) ⌝ }
     ensures { λ n. ⌜ n ≡ length (desugaredAt (decode (now (table .entry))) place) ⌝ }
 {
-    let kind = table::kind(table, place);
-    if (kind == kinds::CONDITION) | (kind == kinds::FLAG_ENTRY) {
+    if kinds::is_condition_or_entry(table::kind(table, place)) {
         return 0;
     }
     let c = count_condition(table, place);

@@ -149,7 +149,7 @@ fn write_at(
     ensures { λ n. ⌜ RecordsAppended (now (out .entry)) count (desugaredAt (decode (now (table .entry))) place) (now (out .exit)) n ⌝ }
 {
     let r = records::at(table, place);
-    if (r.kind == kinds::CONDITION) | (r.kind == kinds::FLAG_ENTRY) {
+    if kinds::is_condition_or_entry(r.kind) {
         return count;
     }
     if counts[place] == 0 {

@@ -26,7 +26,7 @@ use Rattle.rules.specs.declared.Reply.the-variants as reply
 use Rattle.table.proofs.Laws.{at-decode}
 use Rattle.inline_groups.specs.declared.Inlining.{Inlining}
 use Rattle.inline_groups.specs.declared.Inlining.the-variants as inlinings
-use Rattle.inline_groups.specs.Inlinings.{byUnfit, inlining, inliningBytes}
+use Rattle.inline_groups.specs.Inlinings.{inlinedOrUnfit, inlining, inliningBytes}
 use Rattle.store.proofs.Laws.{length-encode}
 use Rattle.inline_groups.proofs.Wholes.{length-records}
 use Rattle.inline_groups.proofs.Codec.{Fits, AllFit, none, more, decode-encode}
@@ -168,7 +168,7 @@ Replied m xs t f (inlinings.Inlined n) =
 
 module _ (m : ℕ) (xs : List Inlined) (t f : List ℕ) where
   replied : Replied m xs t f (inlining m xs)
-  unfolding Replied inlining bySize byUnfit replies.byUnfit
+  unfolding Replied inlining bySize inlinedOrUnfit replies.byUnfit
   replied = go (ltb 1600 (length xs)) refl (ltb m (40 * length xs)) refl (firstUnfit xs) refl
     where
       go : (b : Bool) → ltb 1600 (length xs) ≡ b → (c : Bool) → ltb m (40 * length xs) ≡ c → (u : Found) → firstUnfit xs ≡ u → Replied m xs t f (inlining m xs)

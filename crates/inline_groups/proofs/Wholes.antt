@@ -24,7 +24,7 @@ use Rattle.inline_groups.specs.declared.Inlining.the-variants.{Swollen, 
 use Rattle.group_sizes.specs.Targets.{Resolved}
 use Rattle.group_sizes.specs.Sizes.{totalSize, Sized}
 use Rattle.group_table.specs.Outputs.{Output, output, fitAfter, added, addedAll, empty}
-use Rattle.inline_groups.specs.Inlinings.{byUnfit, byFit, inlining, inliningBytes}
+use Rattle.inline_groups.specs.Inlinings.{inlinedOrUnfit, byFit, inlining, inliningBytes}
 use Rattle.group_table.proofs.Totals.{inlined-size}
 
 -- ---- bytes
@@ -61,19 +61,19 @@ unfit-stays k (x ∷ xs) = unfit-stays k xs
 
 -- xs is what ys has from p on
 unfit-from : (ys : List Inlined) (n p : ℕ) (xs : List Inlined) → ((i : ℕ) → getD ys (p + i) (kept blank) ≡ getD xs i (kept blank)) → n ≡ length ys
-    → byFit n (fitOf All xs) ≡ byUnfit ys (first (unfitAt ys) p (length xs))
-unfolding fitOf fitAfter byFit byUnfit first
+    → byFit n (fitOf All xs) ≡ inlinedOrUnfit ys (first (unfitAt ys) p (length xs))
+unfolding fitOf fitAfter byFit inlinedOrUnfit first
 unfit-from ys n p [] h e = rw e
 unfit-from ys n p (x ∷ xs) h e = go (x .fit) refl (unfit-from ys n (p + 1) xs (λ i. ap (λ (j : ℕ). getD ys j (kept blank)) (omega arith) ∙ h (suc i)) e)
   where
     here : getD ys p (kept blank) ≡ x
     here = ap (λ (j : ℕ). getD ys j (kept blank)) (sym (add-zero p)) ∙ h 0
 
-    go : (b : Bool) → x .fit ≡ b → byFit n (fitOf All xs) ≡ byUnfit ys (first (unfitAt ys) (p + 1) (length xs)) → byFit n (fitOf (fitAfter All x) xs) ≡ byUnfit ys (first (unfitAt ys) p (suc (length xs)))
+    go : (b : Bool) → x .fit ≡ b → byFit n (fitOf All xs) ≡ inlinedOrUnfit ys (first (unfitAt ys) (p + 1) (length xs)) → byFit n (fitOf (fitAfter All x) xs) ≡ inlinedOrUnfit ys (first (unfitAt ys) p (suc (length xs)))
     go true i r = let u : unfitAt ys p ≡ false = rw (here, i) in rw (fitAfter, i, first, u) r
     go false i r = let u : unfitAt ys p ≡ true = rw (here, i) in rw (fitAfter, i, first, u, unfit-stays (fieldKey (x .made)) xs, here)
 
-first-unfit : (xs : List Inlined) → byFit (length xs) (fitOf All xs) ≡ byUnfit xs (firstUnfit xs)
+first-unfit : (xs : List Inlined) → byFit (length xs) (fitOf All xs) ≡ inlinedOrUnfit xs (firstUnfit xs)
 unfolding firstUnfit
 first-unfit xs = unfit-from xs (length xs) 0 xs (λ i. ap (λ (j : ℕ). getD xs j (kept blank)) (zero-add i)) refl
 

@@ -24,9 +24,9 @@ inliningNumbered (inlinings.Unfit key) = numbers 6 (key .0 ∷ [])
 inliningNumbered (inlinings.Inlined records) = numbers 0 (records ∷ [])
 
 -- the first record that is not fit, or how many there are
-unfoldable pub byUnfit : List Inlined → Found → Inlining
-byUnfit xs (At i) = inlinings.Unfit (fieldKey (getD xs i (kept blank) .made))
-byUnfit xs Nothing = inlinings.Inlined (length xs)
+unfoldable pub inlinedOrUnfit : List Inlined → Found → Inlining
+inlinedOrUnfit xs (At i) = inlinings.Unfit (fieldKey (getD xs i (kept blank) .made))
+inlinedOrUnfit xs Nothing = inlinings.Inlined (length xs)
 
 -- the answer once all is written
 unfoldable pub byFit : ℕ → Fit → Inlining
@@ -38,7 +38,7 @@ unfoldable pub inlining : ℕ → List Inlined → Inlining
 inlining m xs =
     if ltb mostRecords (length xs) then inlinings.Swollen
     else if ltb m (recordLength * length xs) then inlinings.BufferShort
-    else byUnfit xs (firstUnfit xs)
+    else inlinedOrUnfit xs (firstUnfit xs)
 
 -- a buffer b with those records at its start, unless they are too many or longer than b
 unfoldable pub inliningBytes : List ℕ → List Inlined → List ℕ

@@ -1,6 +1,6 @@
 // The kinds of records by their numbers, under the names of crates/rules/specs/Kinds.antt, and groups of kinds.
 ghost use mathlib.Core.Path.{_≡_};
-ghost use Rattle.rules.specs.Kinds.{isDecl, isNamedDecl, isPacketOrStruct, holdsFields, isField, isNamedField, isSize, isSizeOrCount, isPayload, isTag, isOuterTag, isValue, isWrittenOnly};
+ghost use Rattle.rules.specs.Kinds.{isDecl, isNamedDecl, isPacketOrStruct, holdsFields, isField, isNamedField, mayRefer, isConditionOrEntry, isSize, isSizeOrCount, isPayload, isTag, isOuterTag, isValue, isWrittenOnly};
 ghost use Rattle.rules.specs.InlineGroups.{isConstraintOrCondition, isKept};
 
 // Declarations.
@@ -99,6 +99,19 @@ pub fn is_named_field(kind: u8) -> bool
     ensures { λ r. ⌜ r ≡ isNamedField kind ⌝ }
 {
     (ARRAY <= kind) & (kind <= TYPEDEF)
+}
+
+// An array, a Typedef or a Group field.
+pub fn may_refer(kind: u8) -> bool
+    ensures { λ r. ⌜ r ≡ mayRefer kind ⌝ }
+{
+    (kind == ARRAY) | ((TYPEDEF <= kind) & (kind <= GROUP_FIELD))
+}
+
+pub fn is_condition_or_entry(kind: u8) -> bool
+    ensures { λ r. ⌜ r ≡ isConditionOrEntry kind ⌝ }
+{
+    (kind == CONDITION) | (kind == FLAG_ENTRY)
 }
 
 pub fn is_size(kind: u8) -> bool

@@ -11,7 +11,7 @@ use borrow.Fn.Kinds.{In}
 use borrow.Fn.PlainCycle.{Measures, is, falls, and}
 use Rattle.rules.specs.Table.{decode}
 use Rattle.decl_visits.specs.Contract.{unvisitedCount}
-use Rattle.decl_visits.proofs.Bounds.{member-below}
+use Rattle.decl_visits.proofs.Growth.{member-below}
 use Rattle.decl_visits.proofs.VisitReady.{follow-in, Step, step-follow, step-wrong, step-nowhere, call-note, mark-in, next-fits, call-walk, call-own, call-list, ret-new, ret-open, ret-listed, call-field, call-rest, ret-more, walked-end}
 use Rattle.decl_visits.proofs.visit.Reads as visit
 use Rattle.decl_visits.proofs.visit.Kinds as visit-kinds

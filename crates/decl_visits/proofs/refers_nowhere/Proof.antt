@@ -4,7 +4,9 @@ use Rattle.decl_visits.proofs.refers_nowhere.Statement.{statement}
 use Rattle.decl_visits.proofs.refers_nowhere.Tie as tie
 
 returns : tie.Need-returns
-returns c = rw (c .member-at .ensures, c .before .kind .ensures)
+returns c =
+    let m = c .before in
+    rw (c .may-refer .ensures, m .member-at .ensures, m .before .kind .ensures)
 
 pub refers-nowhere-spec : {M : Type 1} → statement M
-refers-nowhere-spec = tie.close (tie.spec (λ c κs. search needs) (λ c κs. search needs) returns)
+refers-nowhere-spec = tie.close (tie.spec (λ c κs. search needs) (λ c κs. search needs) (λ c κs. search needs) returns)

@@ -10,7 +10,7 @@ use lib.Dec.{eqb, ltb}
 use lib.ListN.{length, getD, set, replicate, length-append, length-set}
 use Rattle.rules.specs.declared.Reference.{Reference}
 use Rattle.rules.specs.declared.Reference.the-variants.{Nowhere, Wrong, Follow}
-use Rattle.rules.specs.Visits.{State, markOf, opened, noted, resolve, walk, enter, visit}
+use Rattle.rules.specs.Visits.{State, markOf, opened, faulted, resolve, walk, enter, visit}
 use Rattle.table.proofs.Searches.{and-true}
 use Rattle.rules.specs.Kinds.{isDecl}
 use Rattle.rules.specs.Table.{at}
@@ -49,40 +49,40 @@ getD-any (a ∷ l) (suc d) x y h = getD-any l d x y (omega arith)
 
 -- from s to s′ no place becomes unvisited; the list grows by no more than the unvisited places fall; the
 -- faults by x, and 2048 for each place that falls
-pub record Bounds (s s′ : State) (x : ℕ) : Type 0 where
+pub record Growth (s s′ : State) (x : ℕ) : Type 0 where
   pub falls : unvisitedCount (s′ .marks) ≤ unvisitedCount (s .marks)
   pub size : length (s′ .marks) ≡ length (s .marks)
   pub room : length (s′ .order) + unvisitedCount (s′ .marks) ≤ length (s .order) + unvisitedCount (s .marks)
   pub spare : length (s′ .faults) + unvisitedCount (s′ .marks) * 2048 ≤ length (s .faults) + unvisitedCount (s .marks) * 2048 + x
 
-still : (s : State) (x : ℕ) → Bounds s s x
+still : (s : State) (x : ℕ) → Growth s s x
 still s x = record { falls = omega arith; size = refl; room = omega arith; spare = omega arith }
 
-join : {s s₁ s₂ : State} {x y : ℕ} → Bounds s s₁ x → Bounds s₁ s₂ y → Bounds s s₂ (x + y)
+join : {s s₁ s₂ : State} {x y : ℕ} → Growth s s₁ x → Growth s₁ s₂ y → Growth s s₂ (x + y)
 join b c = record { falls = omega arith; size = c .size ∙ b .size; room = omega arith; spare = omega arith }
 
-note-bounds : (c p : ℕ) (s : State) → Bounds s (noted c p s) 1
-note-bounds c p s = record { falls = omega arith; size = refl; room = omega arith; spare = simp length-append (omega arith) }
+note-growth : (c p : ℕ) (s : State) → Growth s (faulted c p s) 1
+note-growth c p s = record { falls = omega arith; size = refl; room = omega arith; spare = simp length-append (omega arith) }
 
-pub resolve-bounds : (v : ℕ → State → State) → ((d : ℕ) (s : State) → Bounds s (v d s) 1) → (r : Reference) (s : State) → Bounds s (resolve v r s) 1
-resolve-bounds v h Nowhere s = still s 1
-resolve-bounds v h (Wrong c p) s = note-bounds c p s
-resolve-bounds v h (Follow e) s = h e s
+pub resolve-growth : (v : ℕ → State → State) → ((d : ℕ) (s : State) → Growth s (v d s) 1) → (r : Reference) (s : State) → Growth s (resolve v r s) 1
+resolve-growth v h Nowhere s = still s 1
+resolve-growth v h (Wrong c p) s = note-growth c p s
+resolve-growth v h (Follow e) s = h e s
 
-pub walk-bounds : (v : ℕ → State → State) → ((d : ℕ) (s : State) → Bounds s (v d s) 1) → (l : List Reference) (s : State) → Bounds s (walk v l s) (length l)
+pub walk-growth : (v : ℕ → State → State) → ((d : ℕ) (s : State) → Growth s (v d s) 1) → (l : List Reference) (s : State) → Growth s (walk v l s) (length l)
 unfolding walk
-walk-bounds v h [] s = still s 0
-walk-bounds v h (a ∷ l) s =
-    let b = resolve-bounds v h a s in
-    let c = walk-bounds v h l (resolve v a s) in
+walk-growth v h [] s = still s 0
+walk-growth v h (a ∷ l) s =
+    let b = resolve-growth v h a s in
+    let c = walk-growth v h l (resolve v a s) in
     record { falls = omega arith; size = c .size ∙ b .size; room = omega arith; spare = omega arith }
 
-enter-bounds : (b b′ : Bool) (v : ℕ → State → State) → ((d : ℕ) (s : State) → Bounds s (v d s) 1)
-    → (l : List Reference) → length l < 2048 → (d : ℕ) (s : State) → (b ≡ true → markOf s d ≡ 0) → Bounds s (enter b b′ v l d s) 1
+enter-growth : (b b′ : Bool) (v : ℕ → State → State) → ((d : ℕ) (s : State) → Growth s (v d s) 1)
+    → (l : List Reference) → length l < 2048 → (d : ℕ) (s : State) → (b ≡ true → markOf s d ≡ 0) → Growth s (enter b b′ v l d s) 1
 unfolding enter
-enter-bounds true b′ v h l short d s m =
+enter-growth true b′ v h l short d s m =
     let o = unvisited-opened (s .marks) d (m refl) in
-    let w = walk-bounds v h l (opened d s) in
+    let w = walk-growth v h l (opened d s) in
     let z = unvisited-set (walk v l (opened d s) .marks) d 1 in
     record {
       falls = omega arith;
@@ -90,14 +90,14 @@ enter-bounds true b′ v h l short d s m =
       room = simp length-append (omega arith);
       spare = omega arith;
     }
-enter-bounds false true v h l short d s m = note-bounds 2 d s
-enter-bounds false false v h l short d s m = still s 1
+enter-growth false true v h l short d s m = note-growth 2 d s
+enter-growth false false v h l short d s m = still s 1
 
-pub visit-bounds : (f : ℕ → List Reference) → ((d : ℕ) → length (f d) < 2048) → (k d : ℕ) (s : State) → Bounds s (visit k f d s) 1
+pub visit-growth : (f : ℕ → List Reference) → ((d : ℕ) → length (f d) < 2048) → (k d : ℕ) (s : State) → Growth s (visit k f d s) 1
 unfolding visit
-visit-bounds f short zero d s = still s 1
-visit-bounds f short (suc k) d s =
-    enter-bounds (eqb (markOf s d) 0) (eqb (markOf s d) 1) (visit k f) (visit-bounds f short k) (f d) (short d) d s (eqb-true (markOf s d) 0)
+visit-growth f short zero d s = still s 1
+visit-growth f short (suc k) d s =
+    enter-growth (eqb (markOf s d) 0) (eqb (markOf s d) 1) (visit k f) (visit-growth f short k) (f d) (short d) d s (eqb-true (markOf s d) 0)
 
 -- one step of the fields
 pub member-below : (rs : List Record) (p : ℕ) → memberAt rs p ≡ true → p < length rs
