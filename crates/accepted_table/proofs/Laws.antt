@@ -18,8 +18,8 @@ use Rattle.inline_groups.specs.declared.Inlining.{Inlining}
 use Rattle.inline_groups.specs.declared.Inlining.the-variants as inlinings
 use Rattle.inline_groups.proofs.ReadBack.{reply-swollen, reply-unfit, reply-inlined, few-records, read-records, enough-room}
 use Rattle.accepted_table.specs.Wrote.{Wrote}
-use Rattle.accepted_table.specs.declared.Written.{Written}
-use Rattle.accepted_table.specs.declared.Written.the-variants.{Done, Short}
+use Rattle.accepted_table.specs.declared.TableWritten.{TableWritten}
+use Rattle.accepted_table.specs.declared.TableWritten.the-variants.{Done, Short}
 
 -- the inlined table
 module _ (rs : List Record) (m : ℕ) {x : Inlining} (e : x ≡ inlining m (inlined rs)) (t : List ℕ) where
@@ -58,7 +58,7 @@ module _ (t : List ℕ) (small : (i : ℕ) → getD t i 0 < 256) {x : Inlining} 
   told-inlined o r d f = (rw read-back at (d f)) ∙ reply-inlined (length b) (inlined (decode t)) o f n (sym e ∙ h)
 
 -- the table, written with a buffer of m bytes
-module _ (m : ℕ) (rs : List Record) (t t′ : List ℕ) (x : Written) (w : Wrote m rs t t′ x) where
+module _ (m : ℕ) (rs : List Record) (t t′ : List ℕ) (x : TableWritten) (w : Wrote m rs t t′ x) where
   pub wrote-done : (r : Reply) → x ≡ Done r → (f : List ℕ) → answered r t′ f ≡ bySize (inlined rs) t f
   unfolding Wrote
   wrote-done r h = rw h at w

@@ -5,10 +5,10 @@ use mathlib.Core.List.{List}
 use Rattle.rules.specs.InlineGroups.{inlined}
 use Rattle.rules.specs.Replies.{answered, bySize}
 use Rattle.rules.specs.declared.Record.{Record}
-use Rattle.accepted_table.specs.declared.Written.{Written}
-use Rattle.accepted_table.specs.declared.Written.the-variants.{Done, Short}
+use Rattle.accepted_table.specs.declared.TableWritten.{TableWritten}
+use Rattle.accepted_table.specs.declared.TableWritten.the-variants.{Done, Short}
 
 -- what writing the table t gives with a buffer of m bytes: the rows from Swollen on, for any fault buffer, or t unchanged and m too small
-unfoldable pub Wrote : ℕ → List Record → List ℕ → List ℕ → Written → Type 0
+unfoldable pub Wrote : ℕ → List Record → List ℕ → List ℕ → TableWritten → Type 0
 Wrote m rs t t′ (Done r) = (f : List ℕ) → answered r t′ f ≡ bySize (inlined rs) t f
 Wrote m rs t t′ Short = (t′ ≡ t) × (m < 64000)

@@ -18,29 +18,29 @@ ghost use Rattle.accepted_table.specs.Wrote.{Wrote};
 const SMALL_LENGTH: usize = RECORD_LENGTH * 2 * FEW_RECORDS;
 
 // What came of writing the table: a reply, or that the buffer is too short for the inlined table.
-enum Written {
+enum TableWritten {
     Done(Reply),
     Short,
 }
 
 // Groups inlined into a buffer, then flags made: the rows from Swollen on, for a table in listed order.
-fn write_table(listed: &[u8], expanded: &mut [u8], table: &mut [u8]) -> Written
+fn write_table(listed: &[u8], expanded: &mut [u8], table: &mut [u8]) -> TableWritten
     requires { ⌜ (length (decode (now listed)) ≤ 1600) × GroupsFirst (decode (now listed)) ⌝ }
     ensures { λ r. ⌜ Wrote (length (now (expanded .entry))) (decode (now (listed .entry))) (now (table .entry)) (now (table .exit)) r ⌝ }
 {
     match inline_groups::inline_groups(listed, expanded) {
-        Inlining::Swollen => Written::Done(Reply::Swollen),
-        Inlining::BufferShort => Written::Short,
-        Inlining::Unfit(key) => Written::Done(Reply::Unfit(key)),
+        Inlining::Swollen => TableWritten::Done(Reply::Swollen),
+        Inlining::BufferShort => TableWritten::Short,
+        Inlining::Unfit(key) => TableWritten::Done(Reply::Unfit(key)),
         Inlining::Inlined(n) => {
             let end = RECORD_LENGTH * n;
-            Written::Done(desugar_flags::desugar_flags(&expanded[..end], table))
+            TableWritten::Done(desugar_flags::desugar_flags(&expanded[..end], table))
         }
     }
 }
 
 // With the small buffer.
-fn write_small(listed: &[u8], table: &mut [u8]) -> Written
+fn write_small(listed: &[u8], table: &mut [u8]) -> TableWritten
     requires { ⌜ (length (decode (now listed)) ≤ 1600) × GroupsFirst (decode (now listed)) ⌝ }
     ensures { λ r. ⌜ Wrote 5120 (decode (now (listed .entry))) (now (table .entry)) (now (table .exit)) r ⌝ }
 {
@@ -55,8 +55,8 @@ fn write_large(listed: &[u8], table: &mut [u8]) -> Reply
 {
     let mut expanded = [0u8; TABLE_LENGTH];
     match write_table(listed, &mut expanded, table) {
-        Written::Done(reply) => reply,
-        Written::Short => Reply::Swollen,
+        TableWritten::Done(reply) => reply,
+        TableWritten::Short => Reply::Swollen,
     }
 }
 
@@ -69,7 +69,7 @@ pub fn write_listed(listed: &[u8], table: &mut [u8]) -> Reply
         return write_large(listed, table);
     }
     match write_small(listed, table) {
-        Written::Done(reply) => reply,
-        Written::Short => write_large(listed, table),
+        TableWritten::Done(reply) => reply,
+        TableWritten::Short => write_large(listed, table),
     }
 }

@@ -12,11 +12,11 @@ use Rattle.rules.specs.Faults.{Log, log, logged}
 use Rattle.rules.specs.DeclIdentifiers.{visited, faultOf, pass2, order, ordered, allRecords}
 use Rattle.rules.specs.Ordering.{Accepts}
 use Rattle.rules.specs.declared.Fault.{Fault}
-use Rattle.faults.specs.Notes.{none}
+use Rattle.faults.specs.Notes.{noFaults}
 use Rattle.faults.proofs.Laws.{noted-logged, total-after}
 use Rattle.decl_visits.specs.declared.VisitProgress.{VisitProgress}
 use Rattle.decl_order.specs.declared.OrderResult.{OrderResult}
-use Rattle.decl_visits.specs.Contract.{Held}
+use Rattle.decl_visits.specs.Contract.{StateHeld}
 use Rattle.decl_visits.proofs.Loop.{order-read, order-short}
 use Rattle.decl_order.specs.Contract.{Placed, ListedAtStart, DeclIdentifiersChecked, allBytes}
 use Rattle.decl_order.proofs.Promise.{listed-declared}
@@ -45,14 +45,14 @@ some-found : (fs : List Fault) → 0 < length fs → fs ≡ [] → ⊥
 some-found fs l e = let z = ap length e in omega arith
 
 -- what the visits leave
-module _ (t o₀ f₀ m o f : List ℕ) (a : VisitProgress) (h : Held (decode t) o₀ f₀ (visited (decode t)) m o f a) where
+module _ (t o₀ f₀ m o f : List ℕ) (a : VisitProgress) (h : StateHeld (decode t) o₀ f₀ (visited (decode t)) m o f a) where
   faults-logged : log (a .tally) f ≡ logged f₀ (pass2 (decode t))
   unfolding pass2
   faults-logged = h .faults-are ∙ noted-logged f₀ (map (faultOf (decode t)) (visited (decode t) .faults))
 
   total-is : a .tally .total ≡ length (pass2 (decode t))
   unfolding pass2
-  total-is = total-after none f₀ (map (faultOf (decode t)) (visited (decode t) .faults)) (h .faults-are) ∙ zero-add (length (pass2 (decode t)))
+  total-is = total-after noFaults f₀ (map (faultOf (decode t)) (visited (decode t) .faults)) (h .faults-are) ∙ zero-add (length (pass2 (decode t)))
 
   pub ret-faulty : (out : List ℕ) → 0 < a .tally .total → DeclIdentifiersChecked t f₀ out f out (record { records = 0; tally = a .tally })
   ret-faulty out l =

@@ -18,7 +18,7 @@ use Rattle.table.proofs.Laws.{length-decode, first-in}
 use Rattle.search.proofs.members.Laws.{members-in}
 use Rattle.store.proofs.Laws.{length-written, written-more}
 use Rattle.decl_order.specs.Contract.{declBytes, allBytes, Placed}
-use Rattle.decl_order.proofs.Sorted.{mem-at}
+use Rattle.decl_order.proofs.Topological.{mem-at}
 
 -- ---- a table in two parts
 

@@ -1,5 +1,6 @@
+pub mod Reachability
 pub mod Accepts
-pub mod Sorted
+pub mod Topological
 pub mod Promise
 pub mod Copies
 pub mod Room

@@ -26,10 +26,10 @@ use Rattle.rules.specs.declared.Target.the-variants.{DeclNamed}
 use Rattle.rules.specs.declared.Reference.{Reference}
 use Rattle.rules.specs.declared.Reference.the-variants.{Nowhere, Wrong, Follow}
 use Rattle.table.proofs.Laws.{at-inj, first-in}
-use Rattle.decl_order.specs.Reachability.{Reaches, one, step, Faultless}
+use Rattle.decl_order.proofs.Reachability.{Reaches, one, step, Faultless}
 use Rattle.table.proofs.Searches.{false-true, and-true, nothing-at, first-is, first-some}
 use Rattle.decl_order.proofs.Accepts.{accepted}
-use Rattle.decl_order.proofs.Sorted.{ListedInOrder, in-order, topological, faultless, follow-inj, follow-wrong, follow-nowhere, wrong-nowhere}
+use Rattle.decl_order.proofs.Topological.{ListedInOrder, in-order, topological, faultless, follow-inj, follow-wrong, follow-nowhere, wrong-nowhere}
 
 -- ---- tests
 

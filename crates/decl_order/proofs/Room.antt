@@ -21,7 +21,7 @@ use Rattle.rules.specs.declared.Target.the-variants.{Decl}
 use Rattle.rules.specs.declared.Reference.{Reference}
 use Rattle.table.proofs.Laws.{first-in}
 use Rattle.table.proofs.Searches.{and-true}
-use Rattle.decl_order.proofs.Sorted.{ListedInOrder, none, more}
+use Rattle.decl_order.proofs.Topological.{ListedInOrder, none, more}
 use Rattle.decl_order.proofs.Promise.{listed-declared, listed-in-order}
 use Rattle.decl_order.proofs.Copies.{decl-length, records-snoc}
 

@@ -1,2 +1,1 @@
-pub mod Reachability
 pub mod Contract

@@ -10,10 +10,10 @@ use Rattle.rules.specs.Visits.{State, resolve, walk, visit, unvisited, visitAll
 use Rattle.rules.specs.DeclIdentifiers.{references, rootReference, rootReferences, visited}
 use Rattle.rules.specs.declared.Record.{Record}
 use Rattle.rules.specs.declared.Tally.{Tally}
-use Rattle.faults.specs.Notes.{none}
+use Rattle.faults.specs.Notes.{noFaults}
 use Rattle.faults.proofs.Laws.{noted-none}
 use Rattle.decl_visits.specs.declared.VisitProgress.{VisitProgress}
-use Rattle.decl_visits.specs.Contract.{unvisitedCount, Held, VisitReady, Visited}
+use Rattle.decl_visits.specs.Contract.{unvisitedCount, StateHeld, VisitReady, Visited}
 use Rattle.decl_visits.proofs.Growth.{unvisited-all, resolve-growth, walk-growth, visit-growth, references-length}
 use Rattle.decl_visits.proofs.VisitReady.{after}
 
@@ -29,7 +29,7 @@ rest-of rs p s = walk (visit (suc (length rs)) (references rs)) (rootReferences 
 
 pub record Turn (rs : List Record) (o₀ f₀ m o f : List ℕ) (a : VisitProgress) (p : ℕ) : Type 0 where
   pub state : State
-  pub held : Held rs o₀ f₀ state m o f a
+  pub held : StateHeld rs o₀ f₀ state m o f a
   pub few : length rs ≤ 1600
   pub size : length m ≡ length rs
   pub room : a .listed + unvisitedCount m + 0 ≤ length o
@@ -40,7 +40,7 @@ pub record Turn (rs : List Record) (o₀ f₀ m o f : List ℕ) (a : VisitProgre
   pub buffer-long : length f ≡ length f₀
 
 pub loop-start : (rs : List Record) (m o f : List ℕ) (a : VisitProgress) → length rs ≤ 1600 → m ≡ replicate (length rs) 0 → length rs ≤ length o
-    → a .listed ≡ 0 → a .tally ≡ none → Turn rs o f m o f a 0
+    → a .listed ≡ 0 → a .tally ≡ noFaults → Turn rs o f m o f a 0
 unfolding visited visitAll
 loop-start rs m o f a few e room l g =
     let n = ap unvisitedCount e ∙ unvisited-all (length rs) in
@@ -51,7 +51,7 @@ loop-start rs m o f a few e room l g =
         marks-are = e;
         places-are = refl;
         listed-is = l;
-        faults-are = ap (λ (t : Tally). log t f) g ∙ noted-none (log none f);
+        faults-are = ap (λ (t : Tally). log t f) g ∙ noted-none (log noFaults f);
       };
       few = few;
       size = ap length e ∙ length-replicate (length rs) 0;
@@ -78,12 +78,12 @@ module _ (rs : List Record) (o₀ f₀ m o f : List ℕ) (a : VisitProgress) (p 
         spare = omega arith;
       }
 
-  pub loop-end : length rs ≤ p → Held rs o₀ f₀ (visited rs) m o f a
+  pub loop-end : length rs ≤ p → StateHeld rs o₀ f₀ (visited rs) m o f a
   unfolding walk rootReferences
   loop-end l =
       let z : length rs - p ≡ 0 = omega arith in
       let e : h .state ≡ visited rs = rw z at (h .rest) in
-      subst (λ (s : State). Held rs o₀ f₀ s m o f a) e (h .held)
+      subst (λ (s : State). StateHeld rs o₀ f₀ s m o f a) e (h .held)
 
   module _ (l : p < length rs) where
     pub loop-call : VisitReady rs m o f a 1 0
@@ -124,7 +124,7 @@ order-short rs few =
     omega arith
 
 -- the first places of the slice are the order
-pub order-read : (rs : List Record) (o₀ f₀ m o f : List ℕ) (a : VisitProgress) → length rs ≤ 1600 → length rs ≤ length o₀ → Held rs o₀ f₀ (visited rs) m o f a → take (a .listed) o ≡ visited rs .order
+pub order-read : (rs : List Record) (o₀ f₀ m o f : List ℕ) (a : VisitProgress) → length rs ≤ 1600 → length rs ≤ length o₀ → StateHeld rs o₀ f₀ (visited rs) m o f a → take (a .listed) o ≡ visited rs .order
 order-read rs o₀ f₀ m o f a few room h =
     let s = order-short rs few in
     let l : 0 + length (visited rs .order) ≤ length o₀ = omega arith in

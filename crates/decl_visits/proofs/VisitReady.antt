@@ -25,11 +25,11 @@ use Rattle.rules.specs.declared.Target.the-variants.{DeclNamed}
 use Rattle.rules.specs.declared.Reference.{Reference}
 use Rattle.rules.specs.declared.Reference.the-variants.{Nowhere, Wrong, Follow}
 use Rattle.faults.specs.Notes as notes
-use Rattle.faults.specs.Notes.{none}
+use Rattle.faults.specs.Notes.{noFaults}
 use Rattle.faults.proofs.Laws.{noted-then, noted-one, total-after}
 use Rattle.table.proofs.Laws.{first-in}
 use Rattle.decl_visits.specs.declared.VisitProgress.{VisitProgress}
-use Rattle.decl_visits.specs.Contract.{unvisitedCount, memberAt, Within, Held, VisitReady, Visited, Walked, Skipped}
+use Rattle.decl_visits.specs.Contract.{unvisitedCount, memberAt, StateHeld, VisitReady, Visited, Walked, Skipped}
 use Rattle.decl_visits.proofs.Growth.{Growth, member-below, unvisited-opened, getD-any, resolve-growth, walk-growth, visit-growth, fields-one, fields-none, fields-length, references-length}
 
 -- ---- how each step of the code changes the state that the slices hold
@@ -45,8 +45,8 @@ sets-more (x ∷ l) o i d =
 abbrev Noted : List Record → List ℕ → VisitProgress → ℕ → ℕ → List ℕ → VisitProgress → Type 0
 Noted rs f a c p f′ b = (b .listed ≡ a .listed) × (log (b .tally) f′ ≡ notes.noted (log (a .tally) f) (single c (at rs p)))
 
-module _ (rs : List Record) (o₀ f₀ : List ℕ) (s : State) (m o f : List ℕ) (a : VisitProgress) (h : Held rs o₀ f₀ s m o f a) where
-  held-open : (d : ℕ) → Held rs o₀ f₀ (opened d s) (set m d 1) o f a
+module _ (rs : List Record) (o₀ f₀ : List ℕ) (s : State) (m o f : List ℕ) (a : VisitProgress) (h : StateHeld rs o₀ f₀ s m o f a) where
+  held-open : (d : ℕ) → StateHeld rs o₀ f₀ (opened d s) (set m d 1) o f a
   held-open d = record {
     marks-are = ap (λ (l : List ℕ). set l d 1) (h .marks-are);
     places-are = h .places-are;
@@ -54,15 +54,15 @@ module _ (rs : List Record) (o₀ f₀ : List ℕ) (s : State) (m o f : List ℕ
     faults-are = h .faults-are;
   }
 
-  held-note : (c p : ℕ) (f′ : List ℕ) (b : VisitProgress) → Noted rs f a c p f′ b → Held rs o₀ f₀ (faulted c p s) m o f′ b
+  held-note : (c p : ℕ) (f′ : List ℕ) (b : VisitProgress) → Noted rs f a c p f′ b → StateHeld rs o₀ f₀ (faulted c p s) m o f′ b
   held-note c p f′ b e = record {
     marks-are = h .marks-are;
     places-are = h .places-are;
     listed-is = e .0 ∙ h .listed-is;
-    faults-are = rw map-append (noted-then (log none f₀) (map (faultOf rs) (s .faults)) (single c (at rs p) ∷ []) (h .faults-are) (e .1 ∙ noted-one (log (a .tally) f) (single c (at rs p))));
+    faults-are = rw map-append (noted-then (log noFaults f₀) (map (faultOf rs) (s .faults)) (single c (at rs p) ∷ []) (h .faults-are) (e .1 ∙ noted-one (log (a .tally) f) (single c (at rs p))));
   }
 
-  held-list : (d : ℕ) (b : VisitProgress) → b .listed ≡ a .listed + 1 → b .tally ≡ a .tally → Held rs o₀ f₀ (listed d s) (set m d 2) (set o (a .listed) d) f b
+  held-list : (d : ℕ) (b : VisitProgress) → b .listed ≡ a .listed + 1 → b .tally ≡ a .tally → StateHeld rs o₀ f₀ (listed d s) (set m d 2) (set o (a .listed) d) f b
   held-list d b e n = record {
     marks-are = ap (λ (l : List ℕ). set l d 2) (h .marks-are);
     places-are = rw (h .listed-is, h .places-are, sets-more, zero-add);
@@ -71,7 +71,7 @@ module _ (rs : List Record) (o₀ f₀ : List ℕ) (s : State) (m o f : List ℕ
   }
 
   held-total : a .tally .total ≡ length (s .faults)
-  held-total = total-after none f₀ (map (faultOf rs) (s .faults)) (h .faults-are) ∙ zero-add _ ∙ length-map (s .faults) (faultOf rs)
+  held-total = total-after noFaults f₀ (map (faultOf rs) (s .faults)) (h .faults-are) ∙ zero-add _ ∙ length-map (s .faults) (faultOf rs)
 
 module _ (rs : List Record) (m o f : List ℕ) (a : VisitProgress) where
   relax : (x y x′ y′ : ℕ) → x′ ≤ x → y′ ≤ y → VisitReady rs m o f a x y → VisitReady rs m o f a x′ y′
@@ -108,7 +108,7 @@ module _ (rs : List Record) (m o f : List ℕ) (a : VisitProgress) where
 
   module _ (m′ o′ f′ : List ℕ) (a′ : VisitProgress) where
     -- the slices now hold a state s′ that has grown by no more
-    pub after : (x y z : ℕ) (h : VisitReady rs m o f a (x + z) y) (s′ : State) → Held rs (h .places₀) (h .buffer₀) s′ m′ o′ f′ a′ → Growth (h .state) s′ z
+    pub after : (x y z : ℕ) (h : VisitReady rs m o f a (x + z) y) (s′ : State) → StateHeld rs (h .places₀) (h .buffer₀) s′ m′ o′ f′ a′ → Growth (h .state) s′ z
         → length o′ ≡ length o → VisitReady rs m′ o′ f′ a′ x y
     after x y z h s′ e b l =
         let e₀ = ap unvisitedCount (h .held .marks-are) in
@@ -133,7 +133,7 @@ module _ (rs : List Record) (m o f : List ℕ) (a : VisitProgress) where
         }
 
     visit-made : (r : Reference) {x y : ℕ} (h : VisitReady rs m o f a x y) → Visited rs r m o f a m′ o′ f′ a′
-        → Held rs (h .places₀) (h .buffer₀) (resolve (visit (suc (unvisitedCount m)) (references rs)) r (h .state)) m′ o′ f′ a′
+        → StateHeld rs (h .places₀) (h .buffer₀) (resolve (visit (suc (unvisitedCount m)) (references rs)) r (h .state)) m′ o′ f′ a′
     visit-made r h v = v (suc (unvisitedCount m)) (h .places₀) (h .buffer₀) (h .state) (lt-suc-self (unvisitedCount m)) (h .held)
 
     visit-growth-at : (r : Reference) {x y : ℕ} (h : VisitReady rs m o f a x y) → Growth (h .state) (resolve (visit (suc (unvisitedCount m)) (references rs)) r (h .state)) 1
@@ -150,7 +150,7 @@ module _ (rs : List Record) (m o f : List ℕ) (a : VisitProgress) where
         omega arith
 
     walk-made : (p : ℕ) {x y : ℕ} (h : VisitReady rs m o f a x y) → Walked rs p m o f a m′ o′ f′ a′
-        → Held rs (h .places₀) (h .buffer₀) (walk (visit (suc (unvisitedCount m)) (references rs)) (fieldReferences rs p (length rs - p)) (h .state)) m′ o′ f′ a′
+        → StateHeld rs (h .places₀) (h .buffer₀) (walk (visit (suc (unvisitedCount m)) (references rs)) (fieldReferences rs p (length rs - p)) (h .state)) m′ o′ f′ a′
     walk-made p h v = v (suc (unvisitedCount m)) (h .places₀) (h .buffer₀) (h .state) (lt-suc-self (unvisitedCount m)) (h .held)
 
     walk-growth-at : (p : ℕ) {x y : ℕ} (h : VisitReady rs m o f a x y)
@@ -168,6 +168,12 @@ module _ (rs : List Record) (m o f : List ℕ) (a : VisitProgress) where
         omega arith
 
 -- ---- a declaration to visit stands in the table
+
+-- a declaration to visit stands below n
+abbrev pub Within : ℕ → Reference → Type 0
+Within n Nowhere = Unit {0}
+Within n (Wrong c p) = Unit {0}
+Within n (Follow d) = d < n
 
 guard : (n : ℕ) (b : Bool) (x y : Reference) → Within n x → Within n y → Within n (if b then x else y)
 guard n true x y h k = h

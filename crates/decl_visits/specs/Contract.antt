@@ -14,7 +14,7 @@ use Rattle.rules.specs.DeclIdentifiers.{references, fieldReferences, faultOf}
 use Rattle.rules.specs.declared.Record.{Record}
 use Rattle.rules.specs.declared.Reference.{Reference}
 use Rattle.rules.specs.declared.Reference.the-variants.{Nowhere, Wrong, Follow}
-use Rattle.faults.specs.Notes.{none, notedAll}
+use Rattle.faults.specs.Notes.{noFaults, notedAll}
 use Rattle.decl_visits.specs.declared.VisitProgress.{VisitProgress}
 
 -- how many marks are of places not visited yet
@@ -32,39 +32,33 @@ abbrev pub refersNowhere : List Record → ℕ → Bool
 refersNowhere rs p = memberAt rs p && not (mayRefer (at rs p .kind))
 
 -- the slices and the counts hold the state s; the places and the fault buffer were o₀ and f₀
-pub record Held (rs : List Record) (o₀ f₀ : List ℕ) (s : State) (marks places buffer : List ℕ) (a : VisitProgress) : Type 0 where
+pub record StateHeld (rs : List Record) (o₀ f₀ : List ℕ) (s : State) (marks places buffer : List ℕ) (a : VisitProgress) : Type 0 where
   pub marks-are : marks ≡ s .marks
   pub places-are : places ≡ sets o₀ 0 (s .order)
   pub listed-is : a .listed ≡ length (s .order)
-  pub faults-are : log (a .tally) buffer ≡ notedAll (log none f₀) (map (faultOf rs) (s .faults))
+  pub faults-are : log (a .tally) buffer ≡ notedAll (log noFaults f₀) (map (faultOf rs) (s .faults))
 
 -- they hold some state, with room for x more faults and y more places than the unvisited ones bring
 pub record VisitReady (rs : List Record) (marks places buffer : List ℕ) (a : VisitProgress) (x y : ℕ) : Type 0 where
   pub state : State
   pub places₀ : List ℕ
   pub buffer₀ : List ℕ
-  pub held : Held rs places₀ buffer₀ state marks places buffer a
+  pub held : StateHeld rs places₀ buffer₀ state marks places buffer a
   pub few : length rs ≤ 1600
   pub size : length marks ≡ length rs
   pub room : a .listed + unvisitedCount marks + y ≤ length places
   pub spare : a .tally .total + unvisitedCount marks * 2048 + x < 2 ^ 63
 
--- a declaration to visit stands below n
-abbrev pub Within : ℕ → Reference → Type 0
-Within n Nowhere = Unit {0}
-Within n (Wrong c p) = Unit {0}
-Within n (Follow d) = d < n
-
 -- whatever state they held, they now hold it with the reference r taken up
 abbrev pub Visited : List Record → Reference → List ℕ → List ℕ → List ℕ → VisitProgress → List ℕ → List ℕ → List ℕ → VisitProgress → Type 0
-Visited rs r m o f a m′ o′ f′ a′ =
-    (k : ℕ) (o₀ f₀ : List ℕ) (s : State) → unvisitedCount m < k → Held rs o₀ f₀ s m o f a → Held rs o₀ f₀ (resolve (visit k (references rs)) r s) m′ o′ f′ a′
+Visited rs r marks places buffer a marks′ places′ buffer′ a′ =
+    (k : ℕ) (o₀ f₀ : List ℕ) (s : State) → unvisitedCount marks < k → StateHeld rs o₀ f₀ s marks places buffer a → StateHeld rs o₀ f₀ (resolve (visit k (references rs)) r s) marks′ places′ buffer′ a′
 
 -- the same of the references of the fields from p on
 abbrev pub Walked : List Record → ℕ → List ℕ → List ℕ → List ℕ → VisitProgress → List ℕ → List ℕ → List ℕ → VisitProgress → Type 0
-Walked rs p m o f a m′ o′ f′ a′ =
-    (k : ℕ) (o₀ f₀ : List ℕ) (s : State) → unvisitedCount m < k → Held rs o₀ f₀ s m o f a
-    → Held rs o₀ f₀ (walk (visit k (references rs)) (fieldReferences rs p (length rs - p)) s) m′ o′ f′ a′
+Walked rs p marks places buffer a marks′ places′ buffer′ a′ =
+    (k : ℕ) (o₀ f₀ : List ℕ) (s : State) → unvisitedCount marks < k → StateHeld rs o₀ f₀ s marks places buffer a
+    → StateHeld rs o₀ f₀ (walk (visit k (references rs)) (fieldReferences rs p (length rs - p)) s) marks′ places′ buffer′ a′
 
 -- the fields from p up to q refer to nothing: to walk from p is to walk from q
 pub record Skipped (rs : List Record) (p q : ℕ) : Type 0 where

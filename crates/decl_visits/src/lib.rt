@@ -14,7 +14,7 @@ ghost use Rattle.rules.specs.Faults.{single, log};
 ghost use Rattle.rules.specs.DeclIdentifiers.{visited, rootReference};
 ghost use Rattle.faults.specs.Notes.{noted};
 ghost use Rattle.declarations.specs.Starts.{Starts};
-ghost use Rattle.decl_visits.specs.Contract.{memberAt, refersNowhere, Held, VisitReady, Visited, Walked, Skipped};
+ghost use Rattle.decl_visits.specs.Contract.{memberAt, refersNowhere, StateHeld, VisitReady, Visited, Walked, Skipped};
 
 // How many places are listed, and the faults found.
 pub struct VisitProgress {
@@ -173,7 +173,7 @@ pub fn visit_all(
     buffer: &mut [u8],
 ) -> VisitProgress
     requires { ⌜ (length (decode (now table)) ≤ 1600) × (now marks ≡ replicate (length (decode (now table))) 0) × (length (decode (now table)) ≤ length (now places)) × Starts (decode (now table)) (now starts) ⌝ }
-    ensures { λ r. ⌜ Held (decode (now (table .entry))) (now (places .entry)) (now (buffer .entry)) (visited (decode (now (table .entry)))) (now (marks .exit)) (now (places .exit)) (now (buffer .exit)) r ⌝ }
+    ensures { λ r. ⌜ StateHeld (decode (now (table .entry))) (now (places .entry)) (now (buffer .entry)) (visited (decode (now (table .entry)))) (now (marks .exit)) (now (places .exit)) (now (buffer .exit)) r ⌝ }
 {
     let n = table::count(table);
     let mut a = VisitProgress {

@@ -18,7 +18,7 @@ pub fn is_large(table: &[u8]) -> bool
 }
 
 // The declaration at `place`, if one with a name stands there, as the start for its name.
-fn start_at(table: &[u8], place: usize, starts: &mut [u16])
+fn set_start(table: &[u8], place: usize, starts: &mut [u16])
     requires { ⌜ (place < length (decode (now table))) × (length (decode (now table)) ≤ 1600) × (length (now starts) ≡ 4093) × StartsFrom (decode (now table)) (now starts) (place + 1) ⌝ }
     ensures { λ _. ⌜ StartsFrom (decode (now (table .entry))) (now (starts .exit)) place ⌝ }
 {
@@ -36,6 +36,6 @@ pub fn fill(table: &[u8], starts: &mut [u16])
     let mut i = table::count(table);
     while 0 < i {
         i -= 1;
-        start_at(table, i, starts);
+        set_start(table, i, starts);
     }
 }

@@ -22,7 +22,7 @@ fn loose_at(table: &[u8], place: usize) -> bool
         return false;
     }
     let condition = records::at(table, place);
-    let field = table::kind(table, flag_sizes::conditions::before(place));
+    let field = table::kind(table, flag_sizes::conditions::place_before(place));
     let named = kinds::is_named_field(field);
     let valued = condition.marks % 2 == 1;
     !(named & valued)
@@ -45,7 +45,7 @@ fn find_loose(table: &[u8]) -> Found
 }
 
 // The table with flags, which has `count` records, if it is not too long for the reply or for the buffer.
-fn fit(table: &[u8], count: usize, counts: &[u16], out: &mut [u8]) -> Reply
+fn fitted(table: &[u8], count: usize, counts: &[u16], out: &mut [u8]) -> Reply
     requires { ⌜ (length (decode (now table)) ≤ 1600) × (count ≡ length (desugared (decode (now table)))) × Counted (decode (now table)) (now counts) (length (decode (now table))) ⌝ }
     ensures { λ r. ⌜ ((f : List ℕ) → answered r (now (out .exit)) f ≡ fitted (desugared (decode (now (table .entry)))) (now (out .entry)) f) ⌝ }
 {
@@ -67,14 +67,14 @@ pub fn desugar_flags(table: &[u8], out: &mut [u8]) -> Reply
 {
     match find_loose(table) {
         Found::At(q) => {
-            let field = records::at(table, flag_sizes::conditions::before(q));
+            let field = records::at(table, flag_sizes::conditions::place_before(q));
             Reply::Loose(FieldKey(field.key))
         }
         Found::Nothing => {
             let mut marks = [0u16; REMAINDERS];
             let mut counts = [0u16; MOST_RECORDS];
-            let n = flag_sizes::size(table, &mut marks, &mut counts);
-            fit(table, n, &counts, out)
+            let n = flag_sizes::total(table, &mut marks, &mut counts);
+            fitted(table, n, &counts, out)
         }
     }
 }

@@ -7,7 +7,7 @@ use native.Mathlib.Omega.{arith}
 use native.Mathlib.Numerals.{add-one}
 use lib.ListN.{length, getD, take, set}
 use lib.Seq.{take-suc, take-suc-set}
-use Rattle.enum_bounds.specs.Bounds.{one, countOf}
+use Rattle.enum_bounds.specs.Bounds.{oneIf, countOf}
 
 -- a list made longer, and one element at its end
 module _ (f : ℕ → Bool) where
@@ -16,7 +16,7 @@ module _ (f : ℕ → Bool) where
   count-append [] ys = omega arith
   count-append (x ∷ xs) ys = omega (arith, count-append xs ys)
 
-  pub count-more : (l : List ℕ) (j : ℕ) → j < length l → countOf f (take (j + 1) l) ≡ countOf f (take j l) + one (f (getD l j 0))
+  pub count-more : (l : List ℕ) (j : ℕ) → j < length l → countOf f (take (j + 1) l) ≡ countOf f (take j l) + oneIf (f (getD l j 0))
   unfolding countOf
   count-more l j h = rw (add-one, take-suc l j 0 h, count-append) (omega arith)
 

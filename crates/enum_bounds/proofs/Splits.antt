@@ -11,8 +11,8 @@ use lib.Dec.{leb}
 use lib.ListN.{length, getD, take, drop}
 use lib.Seq.{length-take-le, getD-take, take-take}
 use Rattle.rules.specs.Sorts.{insert}
-use Rattle.enum_bounds.specs.Bounds.{one, countOf, holders}
-use Rattle.enum_bounds.specs.Order.{Ordered, Split}
+use Rattle.enum_bounds.specs.Bounds.{oneIf, countOf, holders}
+use Rattle.enum_bounds.specs.Order.{Ascending, Split}
 
 pub false-of : (b : Bool) → (b ≡ true → ⊥) → b ≡ false
 false-of true h = absurd (h refl)
@@ -28,7 +28,7 @@ module _ (le : ℕ → ℕ → Bool) (trans : (x y z : ℕ) → le x y ≡ true 
       let none : (i : ℕ) → n ≤ i → i < length (take n s) → ⊥ = λ i h g. omega (arith, length-take-le n s room) in
       record { holds = λ i h. absurd (not-suc-le-zero h); fails = λ i h g. absurd (none i h g) }
 
-  module _ (o : Ordered le (take n s)) {low high : ℕ} (p : Split (λ y. le y x) (take n s) low high) (m : ℕ) (inside : m < n) where
+  module _ (o : Ascending le (take n s)) {low high : ℕ} (p : Split (λ y. le y x) (take n s) low high) (m : ℕ) (inside : m < n) where
     among : m < length (take n s)
     among = omega (arith, length-take-le n s room)
 
@@ -83,7 +83,7 @@ holders-split v zero (a ∷ lows) (b ∷ highs) h e s =
     (holders-split v zero lows highs (omega arith) (omega arith) (split-none (λ x. leb x v) a lows s) ∙ sym (zero-add _))
 holders-split v (suc k) (a ∷ lows) (b ∷ highs) h e s =
     rw (s .holds 0 (zero-lt-suc k))
-    (ap (λ (n : ℕ). one (leb v b) + n) (holders-split v k lows highs (le-of-suc-le-suc h) (omega arith) (split-tail (λ x. leb x v) a lows k s)))
+    (ap (λ (n : ℕ). oneIf (leb v b) + n) (holders-split v k lows highs (le-of-suc-le-suc h) (omega arith) (split-tail (λ x. leb x v) a lows k s)))
 
 pub holders-first : (v k m : ℕ) (lows highs : List ℕ) → m ≤ length lows → m ≤ length highs → k ≤ m → Split (λ x. leb x v) (take m lows) k k
     → countOf (λ x. leb v x) (take k highs) ≡ holders v (take m lows) (take m highs)

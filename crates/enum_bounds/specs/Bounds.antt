@@ -12,17 +12,17 @@ use Rattle.rules.specs.EnumDeclarations.{lesser, greater, ranges, beforeAt}
 use Rattle.rules.specs.declared.Record.{Record}
 
 -- 1 where a test holds
-abbrev pub one : Bool → ℕ
-one b = if b then 1 else 0
+abbrev pub oneIf : Bool → ℕ
+oneIf b = if b then 1 else 0
 
 -- for how many of a list a test holds
 unfoldable pub countOf : (ℕ → Bool) → List ℕ → ℕ
 countOf f [] = 0
-countOf f (x ∷ xs) = one (f x) + countOf f xs
+countOf f (x ∷ xs) = oneIf (f x) + countOf f xs
 
 -- how many ranges of these lesser and greater bounds hold v
 unfoldable pub holders : ℕ → List ℕ → List ℕ → ℕ
-holders v (a ∷ lows) (b ∷ highs) = one (leb a v && leb v b) + holders v lows highs
+holders v (a ∷ lows) (b ∷ highs) = oneIf (leb a v && leb v b) + holders v lows highs
 holders v (a ∷ lows) [] = 0
 holders v [] highs = 0
 

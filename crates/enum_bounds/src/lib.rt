@@ -8,8 +8,8 @@ ghost use Prim.Native.Nat.{_≤_};
 ghost use lib.Dec.{leb};
 ghost use lib.ListN.{length, take};
 ghost use Rattle.rules.specs.Table.{decode};
-ghost use Rattle.enum_bounds.specs.Bounds.{one, countOf, holders, lowsOf, highsOf};
-ghost use Rattle.enum_bounds.specs.Order.{Ordered, Split};
+ghost use Rattle.enum_bounds.specs.Bounds.{oneIf, countOf, holders, lowsOf, highsOf};
+ghost use Rattle.enum_bounds.specs.Order.{Ascending, Split};
 
 // The bounds of the ranges at the first `count` places of `places`.
 pub fn fill(table: &[u8], places: &[u16], count: usize, lows: &mut [u64], highs: &mut [u64])
@@ -27,7 +27,7 @@ pub fn fill(table: &[u8], places: &[u16], count: usize, lows: &mut [u64], highs:
 
 // How many of the first `count` numbers of `numbers`, which ascend, are at most `value`: a search by halves.
 fn at_most(numbers: &[u64], count: usize, value: u64) -> usize
-    requires { ⌜ (count ≤ length (now numbers)) × Ordered leb (take count (now numbers)) ⌝ }
+    requires { ⌜ (count ≤ length (now numbers)) × Ascending leb (take count (now numbers)) ⌝ }
     ensures { λ k. ⌜ (k ≤ count) × Split (λ x. leb x value) (take count (now (numbers .entry))) k k ⌝ }
 {
     let mut low = 0;
@@ -44,7 +44,7 @@ fn at_most(numbers: &[u64], count: usize, value: u64) -> usize
 }
 
 fn one_if(test: bool) -> usize
-    ensures { λ r. ⌜ (r ≡ one test) × (r ≤ 1) ⌝ }
+    ensures { λ r. ⌜ (r ≡ oneIf test) × (r ≤ 1) ⌝ }
 {
     if test { 1 } else { 0 }
 }
@@ -65,7 +65,7 @@ fn at_least(numbers: &[u64], end: usize, value: u64) -> usize
 
 // How many of the first `count` ranges hold `value`. Their lesser bounds ascend, so that none behind those at most `value` does.
 pub fn holders(lows: &[u64], highs: &[u64], count: usize, value: u64) -> usize
-    requires { ⌜ (count ≤ length (now lows)) × (count ≤ length (now highs)) × Ordered leb (take count (now lows)) ⌝ }
+    requires { ⌜ (count ≤ length (now lows)) × (count ≤ length (now highs)) × Ascending leb (take count (now lows)) ⌝ }
     ensures { λ r. ⌜ (r ≡ holders value (take count (now (lows .entry))) (take count (now (highs .entry)))) × (r ≤ count) ⌝ }
 {
     let k = at_most(lows, count, value);

@@ -1,5 +1,5 @@
 // Pass 4, `check_enum_declarations`: the tags of each enum.
-use repeats::marks::Key;
+use repeats::marks::Compared;
 use rules::Tally;
 use rules::limits::MOST_RECORDS;
 ghost use mathlib.Core.Path.{_≡_};
@@ -158,7 +158,7 @@ fn has_enum(table: &[u8]) -> bool
     false
 }
 
-// All faults of pass 4, with arrays for a table of any length.
+// All faults of pass 4, with arrays for the longest table.
 fn check_all(table: &[u8], buffer: &mut [u8]) -> Tally
     requires { ⌜ length (decode (now table)) ≤ 1600 ⌝ }
     ensures { λ r. ⌜ log r (now (buffer .exit)) ≡ logged (now (buffer .entry)) (pass4 (decode (now (table .entry)))) ⌝ }
@@ -168,8 +168,8 @@ fn check_all(table: &[u8], buffer: &mut [u8]) -> Tally
     let mut s = [0u16; MOST_RECORDS];
     let mut lows = [0u64; MOST_RECORDS];
     let mut highs = [0u64; MOST_RECORDS];
-    repeats::marks::mark(table, Key::TagNames, &mut names);
-    repeats::marks::mark(table, Key::TagValues, &mut values);
+    repeats::marks::mark(table, Compared::TagNames, &mut names);
+    repeats::marks::mark(table, Compared::TagValues, &mut values);
     note_enums(
         table,
         &names,
@@ -181,7 +181,7 @@ fn check_all(table: &[u8], buffer: &mut [u8]) -> Tally
     )
 }
 
-// All faults of pass 4. Without a bound on the table their number, a cube, would not fit the total. Without an enum no array is cleared.
+// All faults of pass 4. Without a bound on the table their number, which grows with the product of values and ranges, would not fit the total. Without an enum no array is cleared.
 pub fn check_enum_declarations(table: &[u8], buffer: &mut [u8]) -> Tally
     requires { ⌜ length (decode (now table)) ≤ 1600 ⌝ }
     ensures { λ r. ⌜ log r (now (buffer .exit)) ≡ logged (now (buffer .entry)) (pass4 (decode (now (table .entry)))) ⌝ }

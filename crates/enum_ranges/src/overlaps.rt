@@ -2,7 +2,7 @@
 use enum_bounds::range::greater;
 use enum_bounds::range::lesser;
 use faults::Finding;
-use repeats::when;
+use faults::when;
 use rules::Tally;
 use rules::codes;
 ghost use mathlib.Core.Path.{_≡_};

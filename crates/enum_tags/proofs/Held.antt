@@ -17,20 +17,20 @@ use Rattle.rules.specs.EnumDeclarations.{lesser, holding, heldAt, held, rangeAt
 use Rattle.rules.specs.declared.Record.{Record}
 use Rattle.rules.specs.declared.Fault.{Fault}
 use Rattle.table.proofs.Laws.{each-more}
-use Rattle.enum_bounds.specs.Order.{Ordered}
-use Rattle.enum_bounds.specs.Bounds.{one, countOf, holders, lowsOf, highsOf, Bounds}
+use Rattle.enum_bounds.specs.Order.{Ascending}
+use Rattle.enum_bounds.specs.Bounds.{oneIf, countOf, holders, lowsOf, highsOf, Bounds}
 use Rattle.enum_bounds.proofs.Counts.{count-append}
 use Rattle.enum_ranges.proofs.Stable.{before-low, ranges-ordered}
 
 -- a list that is sorted
 module _ (f : ℕ → Bool) (le : ℕ → ℕ → Bool) where
-  count-insert : (x : ℕ) (ys : List ℕ) → countOf f (insert le x ys) ≡ one (f x) + countOf f ys
+  count-insert : (x : ℕ) (ys : List ℕ) → countOf f (insert le x ys) ≡ oneIf (f x) + countOf f ys
   unfolding countOf insert
   count-insert x [] = refl
   count-insert x (y ∷ ys) = go (le y x) (count-insert x ys)
     where
-      go : (b : Bool) → countOf f (insert le x ys) ≡ one (f x) + countOf f ys
-          → countOf f (if b then y ∷ insert le x ys else x ∷ y ∷ ys) ≡ one (f x) + countOf f (y ∷ ys)
+      go : (b : Bool) → countOf f (insert le x ys) ≡ oneIf (f x) + countOf f ys
+          → countOf f (if b then y ∷ insert le x ys else x ∷ y ∷ ys) ≡ oneIf (f x) + countOf f (y ∷ ys)
       go true e = omega arith
       go false e = refl
 
@@ -49,7 +49,7 @@ getD-map g (x ∷ xs) zero h = refl
 getD-map g (x ∷ xs) (suc i) h = getD-map g xs i (le-of-suc-le-suc h)
 
 module _ (rs : List Record) where
-  lows-in-order : (qs : List ℕ) → Ordered (beforeAt rs) qs → Ordered leb (lowsOf rs qs)
+  lows-in-order : (qs : List ℕ) → Ascending (beforeAt rs) qs → Ascending leb (lowsOf rs qs)
   lows-in-order qs o = record { earlier = λ i j h k. go i j h (omega (arith, length-map qs (λ q. lesser (at rs q)))) }
     where
       go : (i j : ℕ) → i < j → j < length qs → leb (getD (lowsOf rs qs) i 0) (getD (lowsOf rs qs) j 0) ≡ true
@@ -61,7 +61,7 @@ module _ (rs : List Record) where
   holders-at : (v : ℕ) (qs : List ℕ) → holders v (lowsOf rs qs) (highsOf rs qs) ≡ countOf (λ q. holding (at rs q) v) qs
   unfolding holders countOf
   holders-at v [] = refl
-  holders-at v (q ∷ qs) = ap (λ (n : ℕ). one (holding (at rs q) v) + n) (holders-at v qs)
+  holders-at v (q ∷ qs) = ap (λ (n : ℕ). oneIf (holding (at rs q) v) + n) (holders-at v qs)
 
   -- as many faults as there are ranges that hold the value
   times-more : (p q c : ℕ) (b w : Bool) → eqb (at rs q .kind) 41 ≡ b → holding (at rs q) (at rs p .one) ≡ w
@@ -82,7 +82,7 @@ module _ (rs : List Record) where
       ∙ ap (λ (xs : List Fault). xs ++ heldAt rs p (d + 1 + n)) (times d n p)
 
   module _ (d n m : ℕ) (lows highs : List ℕ) (b : Bounds rs d n m lows highs) where
-    pub bounds-ordered : Ordered leb (take m lows)
+    pub bounds-ordered : Ascending leb (take m lows)
     bounds-ordered = rw (b .low) (lows-in-order (sorted (beforeAt rs) (ranges rs d n)) (ranges-ordered rs (ranges rs d n)))
 
     pub held-all : (p : ℕ) → each (λ _. single 43 (at rs p) ∷ []) (holders (at rs p .one) (take m lows) (take m highs)) ≡ held rs d n p

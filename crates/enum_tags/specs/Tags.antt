@@ -4,7 +4,7 @@ use mathlib.Core.Path.{_≡_}
 use mathlib.Core.List.{List}
 use Rattle.rules.specs.declared.Record.{Record}
 use Rattle.repeats.specs.Marks.{Marked}
-use Rattle.repeats.specs.declared.marks.Key.the-variants.{TagNames, TagValues}
+use Rattle.repeats.specs.declared.marks.Compared.the-variants.{TagNames, TagValues}
 use Rattle.enum_bounds.specs.Bounds.{Bounds}
 use Rattle.enum_tags.specs.Before.{rangeBefore}
 

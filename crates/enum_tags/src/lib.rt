@@ -3,10 +3,10 @@ use enum_bounds::holders;
 use enum_bounds::range::greater;
 use enum_bounds::range::lesser;
 use faults::Finding;
+use faults::when;
 use repeats::again;
 use repeats::again_marked;
-use repeats::marks::Key;
-use repeats::when;
+use repeats::marks::Compared;
 use rules::Fault;
 use rules::Found;
 use rules::Record;
@@ -22,7 +22,7 @@ ghost use Rattle.rules.specs.Faults.{log};
 ghost use Rattle.rules.specs.EnumDeclarations.{rangeFound, valueFaults, held, rangeFaults, defaultFaults, innerFaults, tagFaults};
 ghost use Rattle.faults.specs.Notes.{findings, notedAll};
 ghost use Rattle.repeats.specs.Marks.{Marked};
-ghost use Rattle.repeats.specs.declared.marks.Key.the-variants.{TagNames};
+ghost use Rattle.repeats.specs.declared.marks.Compared.the-variants.{TagNames};
 ghost use Rattle.enum_bounds.specs.Bounds.{Bounds};
 ghost use Rattle.enum_tags.specs.Before.{rangeBefore};
 ghost use Rattle.enum_tags.specs.Tags.{TagsMarked, CheckingTag};
@@ -83,14 +83,14 @@ fn note_value(
     let x = again_marked(
         codes::DUPLICATE_TAG_IDENTIFIER,
         table,
-        Key::TagNames,
+        Compared::TagNames,
         place,
         names,
     );
     let y = again_marked(
         codes::DUPLICATE_TAG_VALUE,
         table,
-        Key::TagValues,
+        Compared::TagValues,
         place,
         values,
     );
@@ -154,7 +154,7 @@ fn note_range(
     let x = again_marked(
         codes::DUPLICATE_TAG_IDENTIFIER,
         table,
-        Key::TagNames,
+        Compared::TagNames,
         place,
         names,
     );
@@ -172,7 +172,7 @@ fn note_default(table: &[u8], names: &[u8], place: usize, tally: Tally, buffer: 
     let x = again_marked(
         codes::DUPLICATE_TAG_IDENTIFIER,
         table,
-        Key::TagNames,
+        Compared::TagNames,
         place,
         names,
     );

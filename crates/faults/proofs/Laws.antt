@@ -16,7 +16,7 @@ use Rattle.rules.specs.Places.{each}
 use Rattle.rules.specs.Bytes.{written}
 use Rattle.rules.specs.Faults.{faultBytes, faultsBytes, logged, Log, log}
 use Rattle.store.proofs.Laws.{length-written}
-use Rattle.faults.specs.Notes.{findings, none, noted, notedAll}
+use Rattle.faults.specs.Notes.{findings, noFaults, noted, notedAll}
 use Rattle.rules.specs.declared.Tally.{Tally}
 use Rattle.faults.specs.declared.Finding.{Finding}
 use Rattle.faults.specs.declared.Finding.the-variants.{One, None}
@@ -123,12 +123,12 @@ logged-from b xs [] = ap (logged b) (sym (append-nil xs))
 logged-from b xs (y ∷ ys) = ap (λ (l : Log). foldl noted l ys) (logged-more b xs y) ∙ logged-from b (xs ++ y ∷ []) ys ∙ ap (logged b) (append-assoc xs (y ∷ []) ys)
 
 -- fault by fault, and all at once
-pub noted-logged : (b : List ℕ) (fs : List Fault) → notedAll (log none b) fs ≡ logged b fs
+pub noted-logged : (b : List ℕ) (fs : List Fault) → notedAll (log noFaults b) fs ≡ logged b fs
 unfolding logged faultsBytes
 noted-logged b fs = ap (λ (l : Log). notedAll l fs) (sym (logged-few b [] (omega arith))) ∙ logged-from b [] fs
 
 -- nothing found leaves the buffer
-pub logged-none : (b : List ℕ) (fs : List Fault) → length fs ≤ 0 → logged b fs ≡ log none b
+pub logged-none : (b : List ℕ) (fs : List Fault) → length fs ≤ 0 → logged b fs ≡ log noFaults b
 unfolding faultsBytes
 logged-none b [] h = logged-few b [] (omega arith)
 logged-none b (f ∷ fs) h = absurd (not-suc-le-zero h)

@@ -11,8 +11,8 @@ use Rattle.faults.specs.declared.Finding.{Finding}
 use Rattle.faults.specs.declared.Finding.the-variants.{One, None}
 
 -- no fault yet
-abbrev pub none : Tally
-none = record { kept = 0; total = 0 }
+abbrev pub noFaults : Tally
+noFaults = record { kept = 0; total = 0 }
 
 -- so many faults kept, and so many found
 abbrev pub tallied : ℕ → ℕ → Tally

@@ -7,8 +7,9 @@ use rules::Tally;
 use rules::limits::FAULT_LENGTH;
 ghost use mathlib.Core.Path.{_≡_};
 ghost use Prim.Native.Nat.{_+_, _^_, _<_};
+ghost use Rattle.rules.specs.Choice.{when};
 ghost use Rattle.rules.specs.Faults.{log};
-ghost use Rattle.faults.specs.Notes.{none, tallied, noted};
+ghost use Rattle.faults.specs.Notes.{findings, noFaults, tallied, noted};
 
 // What is found at a place: at most one fault.
 pub enum Finding {
@@ -16,9 +17,19 @@ pub enum Finding {
     None,
 }
 
+// A fault where a test holds.
+pub fn when(test: bool, fault: Fault) -> Finding
+    ensures { λ r. ⌜ findings r ≡ when test fault ⌝ }
+{
+    if test {
+        return Finding::One(fault);
+    }
+    Finding::None
+}
+
 // No fault yet.
 pub fn no_faults() -> Tally
-    ensures { λ r. ⌜ r ≡ none ⌝ }
+    ensures { λ r. ⌜ r ≡ noFaults ⌝ }
 {
     Tally { kept: 0, total: 0 }
 }
@@ -42,7 +53,7 @@ fn keep(buffer: &mut [u8], kept: usize, total: usize, fault: Fault) -> Tally
 }
 
 // The same, where the tally is lent and changed where it is.
-pub fn note(tally: &mut Tally, buffer: &mut [u8], fault: Fault)
+pub(crate) fn note(tally: &mut Tally, buffer: &mut [u8], fault: Fault)
     requires { ⌜ now tally .total + 1 < 2 ^ 64 ⌝ }
     ensures { λ _. ⌜ log (now (tally .exit)) (now (buffer .exit)) ≡ noted (log (now (tally .entry)) (now (buffer .entry))) fault ⌝ }
 {

@@ -13,7 +13,7 @@ use Rattle.rules.specs.FieldIdentifiers.{pass3At}
 use Rattle.rules.specs.declared.Record.{Record}
 use Rattle.table.proofs.Searches.{false-true}
 use Rattle.repeats.specs.Marks.{Marked}
-use Rattle.repeats.specs.declared.marks.Key.the-variants.{FieldNames}
+use Rattle.repeats.specs.declared.marks.Compared.the-variants.{FieldNames}
 use Rattle.repeats.proofs.Laws.{not-again}
 
 pub passed-over : (rs : List Record) (names : List ℕ) (p : ℕ) → Marked rs FieldNames names → (not (eqb (getD names p 1) 0) && isNamedField (at rs p .kind)) ≡ false → [] ≡ pass3At rs p

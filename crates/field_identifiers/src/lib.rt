@@ -1,6 +1,6 @@
 // Pass 3, `check_field_identifiers`: code 11 at a field whose name an earlier field of the declaration has.
 use faults::Finding;
-use repeats::marks::Key;
+use repeats::marks::Compared;
 use rules::Tally;
 use rules::codes;
 ghost use mathlib.Core.Path.{_≡_};
@@ -10,7 +10,7 @@ ghost use Rattle.rules.specs.Faults.{log, logged};
 ghost use Rattle.rules.specs.FieldIdentifiers.{pass3At, pass3};
 ghost use Rattle.faults.specs.Notes.{findings, notedAll};
 ghost use Rattle.repeats.specs.Marks.{Marked};
-ghost use Rattle.repeats.specs.declared.marks.Key.the-variants.{FieldNames};
+ghost use Rattle.repeats.specs.declared.marks.Compared.the-variants.{FieldNames};
 
 pub fn at_place(table: &[u8], names: &[u8], place: usize) -> Finding
     requires { ⌜ Marked (decode (now table)) FieldNames (now names) ⌝ }
@@ -22,7 +22,7 @@ pub fn at_place(table: &[u8], names: &[u8], place: usize) -> Finding
     repeats::again_marked(
         codes::DUPLICATE_FIELD_IDENTIFIER,
         table,
-        Key::FieldNames,
+        Compared::FieldNames,
         place,
         names,
     )

@@ -1,6 +1,6 @@
 // Pass 6, `check_fixed_fields`: fixed values wider than their field, and fixed tags that no enum has.
 use faults::Finding;
-use repeats::when;
+use faults::when;
 use rules::Found;
 use rules::Target;
 use rules::codes;

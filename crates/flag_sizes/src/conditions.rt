@@ -5,7 +5,7 @@ ghost use Rattle.rules.specs.Table.{decode};
 ghost use Rattle.rules.specs.DesugarFlags.{membersStart, isConditionOn};
 
 // The place before `place`: 0 has none and stays.
-pub fn before(place: usize) -> usize
+pub fn place_before(place: usize) -> usize
     ensures { λ r. ⌜ r ≡ place - 1 ⌝ }
 {
     if place == 0 { 0 } else { place - 1 }

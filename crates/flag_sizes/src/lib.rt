@@ -125,7 +125,7 @@ fn mark_next(table: &[u8], place: usize, members: usize, marks: &mut [u16]) -> u
 }
 
 // How many records the whole table becomes. The numbers of entries are kept by place, so that writing need not count again.
-pub fn size(table: &[u8], marks: &mut [u16], counts: &mut [u16]) -> usize
+pub fn total(table: &[u8], marks: &mut [u16], counts: &mut [u16]) -> usize
     requires { ⌜ (length (decode (now table)) ≤ 1600) × (4093 ≤ length (now marks)) × (1600 ≤ length (now counts)) ⌝ }
     ensures { λ n. ⌜ (n ≡ length (desugared (decode (now (table .entry))))) × Counted (decode (now (table .entry))) (now (counts .exit)) (length (decode (now (table .entry)))) ⌝ }
 {

@@ -15,7 +15,7 @@ ghost use Rattle.flag_table.specs.RecordsAppended.{RecordsAppended, Room
 fn entry_of(table: &[u8], place: usize) -> Record
     ensures { λ r. ⌜ r ≡ entryOf (decode (now (table .entry))) place ⌝ }
 {
-    let field = records::at(table, flag_sizes::conditions::before(place));
+    let field = records::at(table, flag_sizes::conditions::place_before(place));
     let condition = records::at(table, place);
     Record {
         kind: kinds::FLAG_ENTRY,

@@ -18,10 +18,10 @@ use Rattle.rules.specs.declared.Record.{Record}
 use Rattle.rules.specs.declared.Found.the-variants.{At}
 use Rattle.rules.specs.declared.Target.the-variants.{Decl}
 use Rattle.group_sizes.specs.GroupsFirst.{GroupsFirst}
-use Rattle.group_sizes.specs.Targets.{Resolved}
+use Rattle.group_sizes.specs.Targets.{TargetsKnown}
 use Rattle.group_sizes.specs.Sizes.{sizeHere, sizeAt, fieldsSize, sizeFrom, totalSize, Sized}
 use Rattle.table.proofs.Searches.{false-true}
-use Rattle.group_sizes.proofs.targets.Resolves.{named-in, group-before}
+use Rattle.group_sizes.proofs.targets.Known.{named-in, group-before}
 use Rattle.group_sizes.proofs.Fields.{here-start, here-next, after-start, after-next, size-next, size-end, Ends, Seen, seen-flag}
 
 -- ---- the size of one declaration: what is counted and what is left make the whole
@@ -35,7 +35,7 @@ pub sizing-start : (rs : List Record) (targets sizes : List ℕ) (d : ℕ) → i
 sizing-start rs targets sizes d i = record { flag = after-start rs d i; so-far = omega arith; small = omega arith }
 
 -- the group of a field has a size
-pub target-in : {rs : List Record} {targets : List ℕ} (sizes : List ℕ) {p k : ℕ} {c : Bool} → Resolved rs targets (length rs) → length rs ≤ length sizes → Seen rs p k c → k ≡ 34 → getD targets p 0 < length sizes
+pub target-in : {rs : List Record} {targets : List ℕ} (sizes : List ℕ) {p k : ℕ} {c : Bool} → TargetsKnown rs targets (length rs) → length rs ≤ length sizes → Seen rs p k c → k ≡ 34 → getD targets p 0 < length sizes
 target-in {rs} sizes {p} r l h e =
     let m = named-in rs (at rs p .second) (r .right p (h .below) (eq-eqb _ _ (sym (h .is-kind) ∙ e))) in
     omega arith
@@ -59,7 +59,7 @@ module _ {rs : List Record} {targets sizes : List ℕ} {d s : ℕ} {after : Bool
 
 -- ---- a size that is stored changes none that it is counted from
 
-module _ (rs : List Record) (t : GroupsFirst rs) (targets : List ℕ) (y : Resolved rs targets (length rs)) (sizes : List ℕ) (q v d : ℕ) (l : d ≤ q) where
+module _ (rs : List Record) (t : GroupsFirst rs) (targets : List ℕ) (y : TargetsKnown rs targets (length rs)) (sizes : List ℕ) (q v d : ℕ) (l : d ≤ q) where
   at-kept : (p : ℕ) → p < length rs → nearest (holdsAt rs Decl) p ≡ At d → sizeAt targets (set sizes q v) rs p ≡ sizeAt targets sizes rs p
   unfolding sizeAt
   at-kept p k h = go (eqb (at rs p .kind) 34) refl
@@ -96,7 +96,7 @@ module _ {rs : List Record} {targets sizes : List ℕ} {q : ℕ} (w : Sized rs t
       go d i (yes z) h = w .right d z i
       go d i (no z) h = let e : d ≡ q = omega arith in false-true (sym (rw e o) ∙ i)
 
-  pub sized-next : {v s : ℕ} → GroupsFirst rs → Resolved rs targets (length rs) → q < length rs → isDecl (at rs q .kind) ≡ true → v ≡ min 1601 s → s ≡ sizeFrom targets sizes rs (q + 1) → Sized rs targets (set sizes q v) (q + 1)
+  pub sized-next : {v s : ℕ} → GroupsFirst rs → TargetsKnown rs targets (length rs) → q < length rs → isDecl (at rs q .kind) ≡ true → v ≡ min 1601 s → s ≡ sizeFrom targets sizes rs (q + 1) → Sized rs targets (set sizes q v) (q + 1)
   sized-next {v} {s} t y l i e f = record { long = (let a = length-set sizes q v in let b = w .long in omega arith); right = λ d h j. go d j (decLt d q) h }
     where
       go : (d : ℕ) → isDecl (at rs d .kind) ≡ true → Dec (d < q) → d < q + 1 → getD (set sizes q v) d 0 ≡ min 1601 (sizeFrom targets (set sizes q v) rs (d + 1))

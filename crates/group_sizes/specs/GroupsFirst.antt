@@ -14,11 +14,11 @@ use Rattle.rules.specs.declared.Found.the-variants.{At, Nothing}
 use Rattle.rules.specs.declared.Target.the-variants.{Decl}
 
 -- both searches find something, the first at a lower place
-abbrev pub Earlier : Found → Found → Type 0
-Earlier (At g) (At d) = g < d
-Earlier (At g) Nothing = ⊥
-Earlier Nothing d = ⊥
+abbrev pub FoundBefore : Found → Found → Type 0
+FoundBefore (At g) (At d) = g < d
+FoundBefore (At g) Nothing = ⊥
+FoundBefore Nothing d = ⊥
 
 abbrev pub GroupsFirst : List Record → Type 0
 GroupsFirst rs =
-    (p : ℕ) → p < length rs → is kind.groupField (at rs p) ≡ true → Earlier (declNamed rs (at rs p .second)) (nearest (holdsAt rs Decl) p)
+    (p : ℕ) → p < length rs → is kind.groupField (at rs p) ≡ true → FoundBefore (declNamed rs (at rs p .second)) (nearest (holdsAt rs Decl) p)

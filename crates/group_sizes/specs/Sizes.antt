@@ -11,7 +11,7 @@ use Rattle.rules.specs.Kinds.{isDecl}
 use Rattle.rules.specs.Table.{at}
 use Rattle.rules.specs.InlineGroups.{isConstraintOrCondition, isKept, afterGroup}
 use Rattle.rules.specs.declared.Record.{Record}
-use Rattle.group_sizes.specs.Targets.{Resolved}
+use Rattle.group_sizes.specs.Targets.{TargetsKnown}
 
 -- how many records a record of kind k at p becomes; bound says that it belongs to a group field
 abbrev pub sizeHere : List ℕ → List ℕ → ℕ → ℕ → Bool → ℕ
@@ -43,4 +43,4 @@ totalSize sizes rs (suc d) = totalSize sizes rs d + (if isKept (at rs d .kind) t
 -- what is asked where the records behind the declaration at d are counted: the targets of group fields are known, and there is room for sizes
 abbrev pub SizingAfter : List Record → List ℕ → List ℕ → ℕ → Type 0
 SizingAfter rs targets sizes d =
-    (length rs ≤ 1600) × Resolved rs targets (length rs) × (length rs ≤ length sizes) × (d < length rs) × (isDecl (at rs d .kind) ≡ true)
+    (length rs ≤ 1600) × TargetsKnown rs targets (length rs) × (length rs ≤ length sizes) × (d < length rs) × (isDecl (at rs d .kind) ≡ true)

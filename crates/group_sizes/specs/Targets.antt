@@ -12,6 +12,6 @@ use Rattle.rules.specs.declared.Record.{Record}
 use Rattle.rules.specs.declared.Found.the-variants.{At}
 
 -- targets has the declaration that each group field below n names
-pub record Resolved (rs : List Record) (targets : List ℕ) (n : ℕ) : Type 0 where
+pub record TargetsKnown (rs : List Record) (targets : List ℕ) (n : ℕ) : Type 0 where
   pub long : length rs ≤ length targets
   pub right : (p : ℕ) → p < n → is kind.groupField (at rs p) ≡ true → declNamed rs (at rs p .second) ≡ At (getD targets p 0)

@@ -10,7 +10,7 @@ ghost use lib.ListN.{length, getD};
 ghost use Rattle.rules.specs.Table.{decode};
 ghost use Rattle.rules.specs.Kinds.{groupField};
 ghost use Rattle.group_sizes.specs.GroupsFirst.{GroupsFirst};
-ghost use Rattle.group_sizes.specs.Targets.{Resolved};
+ghost use Rattle.group_sizes.specs.Targets.{TargetsKnown};
 ghost use Rattle.group_sizes.specs.Sizes.{sizeHere, sizeFrom, SizingAfter, Sized, totalSize};
 
 // How many records the record of `kind` at `place` becomes; `bound`: it belongs to a group field.
@@ -70,7 +70,7 @@ fn saturated(size: usize) -> u16
 
 // Writes the sizes of the declarations, in the order of the table: each group stands before what holds a field of it.
 pub fn measure(table: &[u8], targets: &[u16], sizes: &mut [u16])
-    requires { ⌜ (length (decode (now table)) ≤ 1600) × Resolved (decode (now table)) (now targets) (length (decode (now table))) × (length (decode (now table)) ≤ length (now sizes)) ⌝ }
+    requires { ⌜ (length (decode (now table)) ≤ 1600) × TargetsKnown (decode (now table)) (now targets) (length (decode (now table))) × (length (decode (now table)) ≤ length (now sizes)) ⌝ }
     requires { ⌜ GroupsFirst (decode (now table)) ⌝ }
     ensures { λ _. ⌜ Sized (decode (now (table .entry))) (now (targets .entry)) (now (sizes .exit)) (length (decode (now (table .entry)))) ⌝ }
 {

@@ -8,11 +8,11 @@ ghost use lib.ListN.{length};
 ghost use Rattle.rules.specs.Table.{decode};
 ghost use Rattle.declarations.specs.Starts.{Starts};
 ghost use Rattle.group_sizes.specs.GroupsFirst.{GroupsFirst};
-ghost use Rattle.group_sizes.specs.Targets.{Resolved};
+ghost use Rattle.group_sizes.specs.Targets.{TargetsKnown};
 
 // The place of the first group field, or the end of the table: below it any targets are right.
-fn first_group(table: &[u8]) -> usize
-    ensures { λ r. ⌜ (r ≤ length (decode (now (table .entry)))) × ((targets : List ℕ) → length (decode (now (table .entry))) ≤ length targets → Resolved (decode (now (table .entry))) targets r) ⌝ }
+fn first_group_field(table: &[u8]) -> usize
+    ensures { λ r. ⌜ (r ≤ length (decode (now (table .entry)))) × ((targets : List ℕ) → length (decode (now (table .entry))) ≤ length targets → TargetsKnown (decode (now (table .entry))) targets r) ⌝ }
 {
     let end = table::count(table);
     let mut p = 0;
@@ -26,10 +26,10 @@ fn first_group(table: &[u8]) -> usize
 }
 
 // Writes, at the place of each group field from `from` on, the place of the declaration that it names: one search for each.
-fn resolve_from(table: &[u8], starts: &[u16], from: usize, targets: &mut [u16])
-    requires { ⌜ (length (decode (now table)) ≤ 1600) × (from ≤ length (decode (now table))) × Resolved (decode (now table)) (now targets) from ⌝ }
+fn fill_from(table: &[u8], starts: &[u16], from: usize, targets: &mut [u16])
+    requires { ⌜ (length (decode (now table)) ≤ 1600) × (from ≤ length (decode (now table))) × TargetsKnown (decode (now table)) (now targets) from ⌝ }
     requires { ⌜ GroupsFirst (decode (now table)) × Starts (decode (now table)) (now starts) ⌝ }
-    ensures { λ _. ⌜ Resolved (decode (now (table .entry))) (now (targets .exit)) (length (decode (now (table .entry)))) ⌝ }
+    ensures { λ _. ⌜ TargetsKnown (decode (now (table .entry))) (now (targets .exit)) (length (decode (now (table .entry)))) ⌝ }
 {
     let end = table::count(table);
     let mut p = from;
@@ -47,17 +47,17 @@ fn resolve_from(table: &[u8], starts: &[u16], from: usize, targets: &mut [u16])
 
 // Writes, at the place of each group field, the place of the declaration that it names. A table without group fields, or of
 // few records, needs no array of starts.
-pub fn resolve(table: &[u8], targets: &mut [u16])
+pub fn fill(table: &[u8], targets: &mut [u16])
     requires { ⌜ (length (decode (now table)) ≤ 1600) × (length (decode (now table)) ≤ length (now targets)) ⌝ }
     requires { ⌜ GroupsFirst (decode (now table)) ⌝ }
-    ensures { λ _. ⌜ Resolved (decode (now (table .entry))) (now (targets .exit)) (length (decode (now (table .entry)))) ⌝ }
+    ensures { λ _. ⌜ TargetsKnown (decode (now (table .entry))) (now (targets .exit)) (length (decode (now (table .entry)))) ⌝ }
 {
-    let a = first_group(table);
+    let a = first_group_field(table);
     if (a < table::count(table)) & declarations::starts::is_large(table) {
         let mut starts = [NO_PLACE; REMAINDERS];
         declarations::starts::fill(table, &mut starts);
-        resolve_from(table, &starts, a, targets);
+        fill_from(table, &starts, a, targets);
         return;
     }
-    resolve_from(table, &[], a, targets);
+    fill_from(table, &[], a, targets);
 }

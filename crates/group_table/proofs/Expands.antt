@@ -21,12 +21,12 @@ use Rattle.rules.specs.declared.Found.the-variants.{At}
 use Rattle.rules.specs.declared.Target.the-variants.{Decl}
 use Rattle.group_sizes.specs.GroupsFirst.{GroupsFirst}
 use Rattle.group_table.specs.declared.ExpandProgress.{ExpandProgress}
-use Rattle.group_sizes.specs.Targets.{Resolved}
+use Rattle.group_sizes.specs.Targets.{TargetsKnown}
 use Rattle.group_sizes.specs.Sizes.{sizeAt, fieldsSize, sizeFrom, Sized}
 use Rattle.group_table.specs.Outputs.{Output, output, added, addedAll, ExpandReady, Expanded}
 use Rattle.table.proofs.Laws.{at-inj, left-suc, left-none}
 use Rattle.table.proofs.Searches.{false-true}
-use Rattle.group_sizes.proofs.targets.Resolves.{named-in, named-declares, group-before}
+use Rattle.group_sizes.proofs.targets.Known.{named-in, named-declares, group-before}
 use Rattle.group_sizes.proofs.Fields.{here-start, here-next, after-start, after-next, size-next, size-end, Ends}
 
 -- what the records from p on become
@@ -115,7 +115,7 @@ nil-of : {A : Type 0} (l : List A) → length l ≡ 0 → l ≡ []
 nil-of [] h = refl
 nil-of (x ∷ l) h = absurd (omega arith)
 
-module _ (rs : List Record) (targets sizes : List ℕ) (t : GroupsFirst rs) (y : Resolved rs targets (length rs)) (z : Sized rs targets sizes (length rs)) where
+module _ (rs : List Record) (targets sizes : List ℕ) (t : GroupsFirst rs) (y : TargetsKnown rs targets (length rs)) (z : Sized rs targets sizes (length rs)) where
   size-saturated : (d : ℕ) → d < length rs → isDecl (at rs d .kind) ≡ true → getD sizes d 0 ≤ 1601
   size-saturated d l i = let e = z .right d l i in omega arith
 

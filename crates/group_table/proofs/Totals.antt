@@ -14,7 +14,7 @@ use Rattle.rules.specs.InlineGroups.{isKept, inlinedAt, inlined}
 use Rattle.rules.specs.declared.Record.{Record}
 use Rattle.table.proofs.Searches.{and-true}
 use Rattle.group_sizes.specs.GroupsFirst.{GroupsFirst}
-use Rattle.group_sizes.specs.Targets.{Resolved}
+use Rattle.group_sizes.specs.Targets.{TargetsKnown}
 use Rattle.group_sizes.specs.Sizes.{totalSize, Sized}
 use Rattle.group_table.proofs.Expands.{expand-size, min-sum}
 
@@ -30,7 +30,7 @@ total-rises sizes rs d (suc n) h = go (λ z. total-rises sizes rs d n z) (decLt 
 pub kept-decl : (k : ℕ) → isKept k ≡ true → isDecl k ≡ true
 kept-decl k i = and-true (isDecl k) (not (eqb k 6)) i .0
 
-module _ (rs : List Record) (targets sizes : List ℕ) (t : GroupsFirst rs) (y : Resolved rs targets (length rs)) (z : Sized rs targets sizes (length rs)) where
+module _ (rs : List Record) (targets sizes : List ℕ) (t : GroupsFirst rs) (y : TargetsKnown rs targets (length rs)) (z : Sized rs targets sizes (length rs)) where
   -- the total is the length of the inlined table, as far as 1,601
   each-size : (n : ℕ) → n ≤ length rs → min 1601 (length (each (inlinedAt rs) n)) ≡ min 1601 (totalSize sizes rs n)
   unfolding each totalSize inlinedAt

@@ -18,7 +18,7 @@ use Rattle.group_sizes.specs.GroupsFirst.{GroupsFirst}
 use Rattle.group_table.specs.declared.ExpandProgress.{ExpandProgress}
 use Rattle.group_table.specs.declared.Fit.{Fit}
 use Rattle.group_table.specs.declared.Fit.the-variants.{All, Unfit}
-use Rattle.group_sizes.specs.Targets.{Resolved}
+use Rattle.group_sizes.specs.Targets.{TargetsKnown}
 use Rattle.group_sizes.specs.Sizes.{Sized, totalSize}
 
 -- the first record that is not fit tells its key
@@ -52,7 +52,7 @@ empty = record { count = 0; fit = All }
 pub record RoomForInlined (rs : List Record) (targets sizes env out : List ℕ) : Type 0 where
   pub few : length rs ≤ 1600
   pub groups : GroupsFirst rs
-  pub resolved : Resolved rs targets (length rs)
+  pub resolved : TargetsKnown rs targets (length rs)
   pub sized : Sized rs targets sizes (length rs)
   pub stack : length rs ≤ length env
   pub wide : 40 * totalSize sizes rs (length rs) ≤ length out
@@ -61,7 +61,7 @@ pub record RoomForInlined (rs : List Record) (targets sizes env out : List ℕ) 
 pub record ExpandReady (rs : List Record) (targets sizes : List ℕ) (d : ℕ) (env : List ℕ) (n : ℕ) (out : List ℕ) (a : ExpandProgress) : Type 0 where
   pub few : length rs ≤ 1600
   pub groups : GroupsFirst rs
-  pub resolved : Resolved rs targets (length rs)
+  pub resolved : TargetsKnown rs targets (length rs)
   pub sized : Sized rs targets sizes (length rs)
   pub decl : (d < length rs) × (isDecl (at rs d .kind) ≡ true)
   pub stack : n ≤ length env

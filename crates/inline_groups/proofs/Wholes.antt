@@ -21,7 +21,7 @@ use Rattle.group_table.specs.declared.Fit.{Fit}
 use Rattle.group_table.specs.declared.Fit.the-variants.{All, Unfit}
 use Rattle.inline_groups.specs.declared.Inlining.{Inlining}
 use Rattle.inline_groups.specs.declared.Inlining.the-variants.{Swollen, BufferShort}
-use Rattle.group_sizes.specs.Targets.{Resolved}
+use Rattle.group_sizes.specs.Targets.{TargetsKnown}
 use Rattle.group_sizes.specs.Sizes.{totalSize, Sized}
 use Rattle.group_table.specs.Outputs.{Output, output, fitAfter, added, addedAll, empty}
 use Rattle.inline_groups.specs.Inlinings.{inlinedOrUnfit, byFit, inlining, inliningBytes}
@@ -79,7 +79,7 @@ first-unfit xs = unfit-from xs (length xs) 0 xs (λ i. ap (λ (j : ℕ). getD xs
 
 -- ---- the answer
 
-module _ {rs : List Record} {targets sizes : List ℕ} (t : GroupsFirst rs) (y : Resolved rs targets (length rs)) (z : Sized rs targets sizes (length rs)) where
+module _ {rs : List Record} {targets sizes : List ℕ} (t : GroupsFirst rs) (y : TargetsKnown rs targets (length rs)) (z : Sized rs targets sizes (length rs)) where
   module _ (h : 1600 < totalSize sizes rs (length rs)) (b : List ℕ) where
     swollen : 1600 < length (inlined rs)
     swollen = let e = inlined-size rs targets sizes t y z in omega arith

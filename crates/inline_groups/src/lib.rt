@@ -21,7 +21,7 @@ pub enum Inlining {
     Inlined(usize),
 }
 
-fn answer(progress: ExpandProgress) -> Inlining
+fn by_fit(progress: ExpandProgress) -> Inlining
     ensures { λ r. ⌜ r ≡ byFit (progress .count) (progress .fit) ⌝ }
 {
     let n = progress.count;
@@ -44,7 +44,7 @@ fn inline_with(
     requires { ⌜ GroupsFirst (decode (now table)) ⌝ }
     ensures { λ r. ⌜ (r ≡ inlining (length (now (out .entry))) (inlined (decode (now (table .entry))))) × (now (out .exit) ≡ inliningBytes (now (out .entry)) (inlined (decode (now (table .entry))))) ⌝ }
 {
-    group_sizes::targets::resolve(table, targets);
+    group_sizes::targets::fill(table, targets);
     group_sizes::measure(table, targets, sizes);
     let n = group_sizes::total(table, sizes);
     if MOST_RECORDS < n {
@@ -54,7 +54,7 @@ fn inline_with(
         return Inlining::BufferShort;
     }
     let a = group_table::write_all(table, targets, sizes, env, out);
-    answer(a)
+    by_fit(a)
 }
 
 // Inlines the groups of a table in listed order into a buffer, if the inlined table fits it.

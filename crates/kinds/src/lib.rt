@@ -65,6 +65,23 @@ pub const INNER_VALUE: u8 = 42;
 
 pub const DEFAULT_TAG: u8 = 43;
 
+// Groups of kinds as numbers, a bit for each kind.
+pub const NAMED_DECLS: u64 = (2u64 << GROUP) - (1u64 << CHECKSUM);
+
+pub const NAMED_FIELDS: u64 = (2u64 << TYPEDEF) - (1u64 << ARRAY);
+
+pub const SIZES: u64 = (2u64 << ELEMENT_SIZE) - (1u64 << SIZE);
+
+pub const FIXED_FIELDS: u64 = (2u64 << FIXED_ENUM) - (1u64 << FIXED_SCALAR);
+
+pub const PAYLOADS: u64 = (2u64 << PAYLOAD) - (1u64 << BODY);
+
+pub const PAYLOADS_AND_NAMED_DECLS: u64 = PAYLOADS + NAMED_DECLS;
+
+pub const ARRAYS: u64 = 1u64 << ARRAY;
+
+pub const PADDINGS: u64 = 1u64 << PADDING;
+
 pub fn is_decl(kind: u8) -> bool
     ensures { λ r. ⌜ r ≡ isDecl kind ⌝ }
 {
@@ -168,5 +185,5 @@ pub fn is_constraint_or_condition(kind: u8) -> bool
 pub fn is_kept(kind: u8) -> bool
     ensures { λ r. ⌜ r ≡ isKept kind ⌝ }
 {
-    ((CHECKSUM <= kind) & (kind <= TEST)) & !(kind == GROUP)
+    is_decl(kind) & !(kind == GROUP)
 }

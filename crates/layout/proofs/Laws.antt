@@ -13,9 +13,9 @@ use Rattle.rules.specs.Places.{nearest, holdsAt}
 use Rattle.rules.specs.Layouts.{foundKind, kindBefore}
 use Rattle.rules.specs.declared.Record.{Record}
 use Rattle.rules.specs.declared.Target.the-variants.{Decl}
-use Rattle.layout.specs.Surroundings.{kinds, around, after}
+use Rattle.layout.specs.Surroundings.{kindsAround, around, after}
 
-pub around-start : (rs : List Record) → kinds 0 0 0 ≡ around rs 0
+pub around-start : (rs : List Record) → kindsAround 0 0 0 ≡ around rs 0
 unfolding around nearest foundKind kindBefore
 around-start rs = refl
 

@@ -64,7 +64,7 @@ fn children(table: &mut [u8])
 }
 
 // 800 structs, each with a field of the next.
-fn holders(table: &mut [u8])
+fn structs_with_fields(table: &mut [u8])
     requires { ⌜ length (now table) ≡ 64000 ⌝ }
 {
     let mut p = 0;
@@ -96,6 +96,6 @@ fn main() {
     let mut buffer = [0u8; 10 * FAULT_LENGTH];
     children(&mut table);
     show(&table, &mut buffer, &mut out);
-    holders(&mut table);
+    structs_with_fields(&mut table);
     show(&table, &mut buffer, &mut out);
 }

@@ -8,7 +8,7 @@ use Rattle.rules.specs.declared.Record.{Record}
 use Rattle.declarations.specs.Starts.{Starts}
 use Rattle.declarations.proofs.starts.Laws.{starts-none}
 use Rattle.repeats.specs.Marks.{Marked}
-use Rattle.repeats.specs.declared.marks.Key.the-variants.{FieldNames, Sizes, ElementSizes}
+use Rattle.repeats.specs.declared.marks.Compared.the-variants.{FieldNames, Sizes, ElementSizes}
 use Rattle.repeats.proofs.marks.Laws.{marked-ones}
 use Rattle.size_fields.specs.SizeStarts.{SizeStarts}
 use Rattle.payload_fields.specs.Parents.{Parents}

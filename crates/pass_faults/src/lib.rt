@@ -1,7 +1,7 @@
 // All faults of a pass, by its number: pass 1, and passes 3 to 9, place by place.
 use faults::Finding;
 use field_identifiers::check_field_identifiers;
-use repeats::marks::Key;
+use repeats::marks::Compared;
 use rules::Tally;
 use rules::limits::MOST_RECORDS;
 use table::NO_PLACE;
@@ -65,36 +65,19 @@ fn note_at(
     )
 }
 
-// Groups of kinds, a bit for each kind.
-const NAMED_DECLS: u64 = (2u64 << kinds::GROUP) - (1u64 << kinds::CHECKSUM);
-
-const NAMED_FIELDS: u64 = (2u64 << kinds::TYPEDEF) - (1u64 << kinds::ARRAY);
-
-const SIZES: u64 = (2u64 << kinds::ELEMENT_SIZE) - (1u64 << kinds::SIZE);
-
-const FIXED_FIELDS: u64 = (2u64 << kinds::FIXED_ENUM) - (1u64 << kinds::FIXED_SCALAR);
-
-const PAYLOADS: u64 = (2u64 << kinds::PAYLOAD) - (1u64 << kinds::BODY);
-
-const PAYLOADS_AND_NAMED_DECLS: u64 = PAYLOADS + NAMED_DECLS;
-
-const ARRAYS: u64 = 1u64 << kinds::ARRAY;
-
-const PADDINGS: u64 = 1u64 << kinds::PADDING;
-
 // The kinds of the records that a pass looks at, a bit each.
 fn looked_at(pass: u8) -> u64
     requires { ⌜ (pass ≡ 4 → ⊥) ⌝ }
     ensures { λ bits. ⌜ ((rs : List Record) (p : ℕ) → isAmong bits (at rs p .kind) ≡ false → passAt pass rs p ≡ []) ⌝ }
 {
     match pass {
-        1 => NAMED_DECLS,
-        3 => NAMED_FIELDS,
-        5 => SIZES,
-        6 => FIXED_FIELDS,
-        7 => PAYLOADS_AND_NAMED_DECLS,
-        8 => ARRAYS,
-        9 => PADDINGS,
+        1 => kinds::NAMED_DECLS,
+        3 => kinds::NAMED_FIELDS,
+        5 => kinds::SIZES,
+        6 => kinds::FIXED_FIELDS,
+        7 => kinds::PAYLOADS_AND_NAMED_DECLS,
+        8 => kinds::ARRAYS,
+        9 => kinds::PADDINGS,
         _ => 0,
     }
 }
@@ -164,7 +147,7 @@ fn run_fields(table: &[u8], buffer: &mut [u8]) -> Tally
     ensures { λ r. ⌜ log r (now (buffer .exit)) ≡ logged (now (buffer .entry)) (passFaults 3 (decode (now (table .entry)))) ⌝ }
 {
     let mut marks = [1u8; MOST_RECORDS];
-    repeats::marks::mark(table, Key::FieldNames, &mut marks);
+    repeats::marks::mark(table, Compared::FieldNames, &mut marks);
     check_field_identifiers(table, &marks, buffer)
 }
 
@@ -176,8 +159,8 @@ fn run_sizes(table: &[u8], buffer: &mut [u8]) -> Tally
     let mut sizes = [1u8; MOST_RECORDS];
     let mut elements = [1u8; MOST_RECORDS];
     let mut places = [NO_PLACE; MOST_RECORDS];
-    repeats::marks::mark(table, Key::Sizes, &mut sizes);
-    repeats::marks::mark(table, Key::ElementSizes, &mut elements);
+    repeats::marks::mark(table, Compared::Sizes, &mut sizes);
+    repeats::marks::mark(table, Compared::ElementSizes, &mut elements);
     size_fields::starts::fill(table, &mut places);
     run_places(5, table, &sizes, &elements, &places, buffer)
 }

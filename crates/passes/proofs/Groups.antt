@@ -20,9 +20,9 @@ use Rattle.rules.specs.Ordering.{Declared, Named, UniqueNames, HeldBy, by-group
 use Rattle.rules.specs.declared.Record.{Record}
 use Rattle.rules.specs.declared.Found.the-variants.{At}
 use Rattle.rules.specs.declared.Target.the-variants.{Decl, DeclNamed}
-use Rattle.group_sizes.specs.GroupsFirst.{Earlier, GroupsFirst}
+use Rattle.group_sizes.specs.GroupsFirst.{FoundBefore, GroupsFirst}
 use Rattle.table.proofs.Searches.{false-true, and-true, named-is-decl, first-only, nearest-is}
-use Rattle.decl_order.proofs.Sorted.{mem-at}
+use Rattle.decl_order.proofs.Topological.{mem-at}
 use Rattle.decl_order.proofs.Promise.{promise}
 use Rattle.decl_order.proofs.Copies.{decl-length, count-fits}
 use Rattle.decl_order.proofs.Room.{named-decl}
@@ -166,7 +166,7 @@ module _ (rs : List Record) where
           let c = long i x in
           (omega arith, omega (arith, count-fits rs (getD l i 0) (declared-at i x .0)), λ q s t. members-free rs (getD l i 0) (declared-at i x .0) q s (omega arith))
 
-      earlier : Earlier (declNamed os (at os p .second)) (nearest (holdsAt os Decl) p)
+      earlier : FoundBefore (declNamed os (at os p .second)) (nearest (holdsAt os Decl) p)
       unfolding d
       earlier =
           let g = promise rs u .sound a .0 .groups d (d + j) declared held is-group in

@@ -9,9 +9,9 @@ use Rattle.rules.specs.PayloadFields.{childWithField}
 use Rattle.rules.specs.declared.Record.{Record}
 
 -- where the mark of a declaration's name is 0, no place below n is a child of it with a field; past the marks it counts as 1
-pub record Childless (rs : List Record) (marks : List ℕ) (n : ℕ) : Type 0 where
+pub record NoChildWithField (rs : List Record) (marks : List ℕ) (n : ℕ) : Type 0 where
   pub none : (d : ℕ) → getD marks (at rs d .name % 4093) 1 ≡ 0 → (c : ℕ) → c < n → childWithField rs d c ≡ false
 
 -- no place of the table
 abbrev pub Parents : List Record → List ℕ → Type 0
-Parents rs marks = Childless rs marks (length rs)
+Parents rs marks = NoChildWithField rs marks (length rs)

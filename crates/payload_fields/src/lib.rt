@@ -2,7 +2,7 @@
 pub mod parents;
 
 use faults::Finding;
-use repeats::when;
+use faults::when;
 use rules::Found;
 use rules::Target;
 use rules::codes;

@@ -6,12 +6,12 @@ ghost use mathlib.Core.Path.{_≡_};
 ghost use Prim.Native.Nat.{_+_};
 ghost use lib.ListN.{length};
 ghost use Rattle.rules.specs.Table.{decode};
-ghost use Rattle.payload_fields.specs.Parents.{Childless, Parents};
+ghost use Rattle.payload_fields.specs.Parents.{NoChildWithField, Parents};
 
 // Marks, by its remainder, the parent's name of the declaration at `child`, if it has a field.
 fn mark_parent(table: &[u8], child: usize, parents: &mut [u8])
-    requires { ⌜ (length (now parents) ≡ 4093) × Childless (decode (now table)) (now parents) child ⌝ }
-    ensures { λ _. ⌜ Childless (decode (now (table .entry))) (now (parents .exit)) (child + 1) ⌝ }
+    requires { ⌜ (length (now parents) ≡ 4093) × NoChildWithField (decode (now table)) (now parents) child ⌝ }
+    ensures { λ _. ⌜ NoChildWithField (decode (now (table .entry))) (now (parents .exit)) (child + 1) ⌝ }
 {
     if !kinds::is_packet_or_struct(table::kind(table, child)) {
         return;

@@ -5,7 +5,7 @@ ghost use Rattle.rules.specs.Replies.{numbered};
 ghost use Rattle.pdl.specs.Numbers.{headerNumbers};
 
 // A reply as the header's three numbers.
-pub fn numbers(reply: Reply) -> [u64; 3]
+pub fn header_numbers(reply: Reply) -> [u64; 3]
     ensures { λ n. ⌜ n ≡ headerNumbers (numbered reply) ⌝ }
 {
     match reply {

@@ -15,5 +15,5 @@ pub extern "C" fn pdl_analyze(
 )
     ensures { λ _. ⌜ outputs (now (reply .exit)) (now (table .exit)) (now (faults .exit)) ≡ headerAnswer (answer (now (input .entry)) (now (table .entry)) (now (faults .entry))) ⌝ }
 {
-    *reply = header::numbers(analyzer::analyze(input, table, faults));
+    *reply = header::header_numbers(analyzer::analyze(input, table, faults));
 }

@@ -93,7 +93,7 @@ fn append_faults(text: &mut [u8], at: usize, faults: &[u8], count: usize) -> usi
 }
 
 // How many faults of a total are kept in the fault buffer.
-fn kept(total: usize, faults: &[u8]) -> usize
+fn kept_faults(total: usize, faults: &[u8]) -> usize
     ensures { λ r. ⌜ r ≡ min total (faultRoom (now (faults .entry))) ⌝ }
 {
     let room = faults.len() / FAULT_LENGTH;
@@ -109,7 +109,7 @@ fn append_detail(text: &mut [u8], at: usize, reply: Reply, table: &[u8], faults:
     ensures { λ r. ⌜ TextAppended (now (text .entry)) at (detail (numbered reply) (now (table .entry)) (now (faults .entry))) (now (text .exit)) r ⌝ }
 {
     match reply {
-        Reply::Faulty(pass, total) => append_faults(text, at, faults, kept(total, faults)),
+        Reply::Faulty(pass, total) => append_faults(text, at, faults, kept_faults(total, faults)),
         Reply::Accepted(records) => append_records(text, at, table, records),
         _ => at,
     }

@@ -12,6 +12,7 @@ use Rattle.program.specs.declared.input.Reading.the-variants.{End, Faile
 abbrev pub shortLength : ℕ → ℕ
 shortLength n = if leb n 64040 then n else 64001 + (n - 64001) % 40
 
+-- j stands for the input i: the same up to 64,040 bytes, else shorter with the same remainder
 pub record StandsFor (i j : List ℕ) : Type 0 where
   pub same : length i ≤ 64040 → j ≡ i
   pub long : length j ≡ shortLength (length i)

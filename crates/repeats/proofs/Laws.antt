@@ -12,8 +12,8 @@ use Rattle.rules.specs.declared.Record.{Record}
 use Rattle.rules.specs.declared.Found.{Found}
 use Rattle.rules.specs.declared.Found.the-variants.{At, Nothing}
 use Rattle.table.proofs.Searches.{false-true}
-use Rattle.repeats.specs.Marks.{targetOf, earlier}
-use Rattle.repeats.specs.declared.marks.Key.{Key}
+use Rattle.repeats.specs.Marks.{targetOf, hasEarlier}
+use Rattle.repeats.specs.declared.marks.Compared.{Compared}
 
 -- a search that finds nothing in the declaration
 none-found : (code : ℕ) (rs : List Record) (p : ℕ) (x : Found) → foundInside rs x ≡ false → [] ≡ repeated code rs p x
@@ -25,6 +25,6 @@ none-found code rs p (At q) e = go (isDecl (at rs q .kind)) refl
     go true d = rw d
     go false d = false-true (sym (rw (foundInside, d) at e))
 
-pub not-again : (code : ℕ) (rs : List Record) (what : Key) (n p : ℕ) → earlier rs what n p ≡ false → [] ≡ again code rs (targetOf what n) p
-unfolding again earlier
+pub not-again : (code : ℕ) (rs : List Record) (what : Compared) (n p : ℕ) → hasEarlier rs what n p ≡ false → [] ≡ again code rs (targetOf what n) p
+unfolding again hasEarlier
 not-again code rs what n p e = none-found code rs p _ e

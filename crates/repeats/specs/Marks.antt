@@ -1,4 +1,4 @@
--- The records that have a key which none of their declaration may repeat, and marks that say where none does.
+-- Names and values that no record of a declaration may repeat, and marks that say where none does.
 use Prim.Native.Nat.{ℕ, _%_}
 use mathlib.Core.Path.{_≡_}
 use mathlib.Core.List.{List}
@@ -12,40 +12,40 @@ use Rattle.rules.specs.Places.{nearest, holdsAt, foundInside}
 use Rattle.rules.specs.declared.Record.{Record}
 use Rattle.rules.specs.declared.Target.{Target}
 use Rattle.rules.specs.declared.Target.the-variants.{NameOrDecl, TagOrDecl, ValueOrDecl, SizeOrDecl, ElementSizeOrDecl}
-use Rattle.repeats.specs.declared.marks.Key.{Key}
-use Rattle.repeats.specs.declared.marks.Key.the-variants.{FieldNames, TagNames, TagValues, Sizes, ElementSizes}
+use Rattle.repeats.specs.declared.marks.Compared.{Compared}
+use Rattle.repeats.specs.declared.marks.Compared.the-variants.{FieldNames, TagNames, TagValues, Sizes, ElementSizes}
 
--- the kinds of records that have the key
-abbrev pub selects : Key → ℕ → Bool
+-- the kinds of records of which it is compared
+abbrev pub selects : Compared → ℕ → Bool
 selects FieldNames k = isNamedField k
 selects TagNames k = isTag k
 selects TagValues k = isValue k
 selects Sizes k = isSizeOrCount k
 selects ElementSizes k = eqb k kind.elementSize
 
-abbrev pub keyOf : Key → Record → ℕ
-keyOf FieldNames r = r .name
-keyOf TagNames r = r .name
-keyOf TagValues r = r .one
-keyOf Sizes r = r .second
-keyOf ElementSizes r = r .second
+abbrev pub comparedOf : Compared → Record → ℕ
+comparedOf FieldNames r = r .name
+comparedOf TagNames r = r .name
+comparedOf TagValues r = r .one
+comparedOf Sizes r = r .second
+comparedOf ElementSizes r = r .second
 
--- what a search for a key looks for
-abbrev pub targetOf : Key → ℕ → Target
+-- what a search for n looks for
+abbrev pub targetOf : Compared → ℕ → Target
 targetOf FieldNames n = NameOrDecl n
 targetOf TagNames n = TagOrDecl n
 targetOf TagValues n = ValueOrDecl n
 targetOf Sizes n = SizeOrDecl n
 targetOf ElementSizes n = ElementSizeOrDecl n
 
--- an earlier record of the declaration that p stands in has this key
-unfoldable pub earlier : List Record → Key → ℕ → ℕ → Bool
-earlier rs what n p = foundInside rs (nearest (holdsAt rs (targetOf what n)) p)
+-- an earlier record of the declaration that p stands in has n
+unfoldable pub hasEarlier : List Record → Compared → ℕ → ℕ → Bool
+hasEarlier rs what n p = foundInside rs (nearest (holdsAt rs (targetOf what n)) p)
 
--- where the mark is 0 no earlier record of the declaration has the same key; past the marks it counts as 1
-pub record Marked (rs : List Record) (what : Key) (marks : List ℕ) : Type 0 where
-  pub clear : (p : ℕ) → getD marks p 1 ≡ 0 → earlier rs what (keyOf what (at rs p)) p ≡ false
+-- where the mark is 0 no earlier record of the declaration has the same; past the marks it counts as 1
+pub record Marked (rs : List Record) (what : Compared) (marks : List ℕ) : Type 0 where
+  pub clear : (p : ℕ) → getD marks p 1 ≡ 0 → hasEarlier rs what (comparedOf what (at rs p)) p ≡ false
 
--- each key that an earlier record has left its stamp
-pub record Stamped (rs : List Record) (what : Key) (seen : List ℕ) (stamp p : ℕ) : Type 0 where
-  pub known : (n : ℕ) → earlier rs what n p ≡ true → getD seen (n % 4093) 0 ≡ stamp
+-- each name or value that an earlier record has left its stamp
+pub record Stamped (rs : List Record) (what : Compared) (seen : List ℕ) (stamp p : ℕ) : Type 0 where
+  pub known : (n : ℕ) → hasEarlier rs what n p ≡ true → getD seen (n % 4093) 0 ≡ stamp

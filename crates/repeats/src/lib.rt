@@ -2,27 +2,15 @@
 pub mod marks;
 
 use faults::Finding;
-use marks::Key;
-use rules::Fault;
+use marks::Compared;
 use rules::Found;
 use rules::Target;
 ghost use mathlib.Core.Path.{_≡_};
-ghost use Rattle.rules.specs.Choice.{when};
 ghost use Rattle.rules.specs.Table.{decode, at};
 ghost use Rattle.rules.specs.Faults.{repeated};
 ghost use Rattle.rules.specs.EnumDeclarations.{again};
 ghost use Rattle.faults.specs.Notes.{findings};
-ghost use Rattle.repeats.specs.Marks.{keyOf, targetOf, Marked};
-
-// A fault where a test holds.
-pub fn when(test: bool, fault: Fault) -> Finding
-    ensures { λ r. ⌜ findings r ≡ when test fault ⌝ }
-{
-    if test {
-        return Finding::One(fault);
-    }
-    Finding::None
-}
+ghost use Rattle.repeats.specs.Marks.{comparedOf, targetOf, Marked};
 
 // A fault at `place` that points at the earlier record that a search found, if it is no declaration.
 fn repeated(code: u16, table: &[u8], place: usize, found: Found) -> Finding
@@ -47,26 +35,26 @@ pub fn again(code: u16, table: &[u8], target: Target, place: usize) -> Finding
     repeated(code, table, place, search::nearest(table, target, place))
 }
 
-// What a search for the key of the record at `place` looks for.
-fn target_of(key: Key, table: &[u8], place: usize) -> Target
-    ensures { λ r. ⌜ r ≡ targetOf key (keyOf key (at (decode (now (table .entry))) place)) ⌝ }
+// What a search for an earlier record that has the same as the one at `place` looks for.
+fn target_of(what: Compared, table: &[u8], place: usize) -> Target
+    ensures { λ r. ⌜ r ≡ targetOf what (comparedOf what (at (decode (now (table .entry))) place)) ⌝ }
 {
-    match key {
-        Key::FieldNames => Target::NameOrDecl(table::name(table, place)),
-        Key::TagNames => Target::TagOrDecl(table::name(table, place)),
-        Key::TagValues => Target::ValueOrDecl(records::at(table, place).one),
-        Key::Sizes => Target::SizeOrDecl(table::second(table, place)),
-        Key::ElementSizes => Target::ElementSizeOrDecl(table::second(table, place)),
+    match what {
+        Compared::FieldNames => Target::NameOrDecl(table::name(table, place)),
+        Compared::TagNames => Target::TagOrDecl(table::name(table, place)),
+        Compared::TagValues => Target::ValueOrDecl(records::at(table, place).one),
+        Compared::Sizes => Target::SizeOrDecl(table::second(table, place)),
+        Compared::ElementSizes => Target::ElementSizeOrDecl(table::second(table, place)),
     }
 }
 
-// The same for the key of the record at `place`, without a search where the mark is 0.
-pub fn again_marked(code: u16, table: &[u8], key: Key, place: usize, marks: &[u8]) -> Finding
-    requires { ⌜ Marked (decode (now table)) key (now marks) ⌝ }
-    ensures { λ r. ⌜ findings r ≡ again code (decode (now (table .entry))) (targetOf key (keyOf key (at (decode (now (table .entry))) place))) place ⌝ }
+// As `again`, for what is compared of the record at `place`, without a search where the mark is 0.
+pub fn again_marked(code: u16, table: &[u8], what: Compared, place: usize, marks: &[u8]) -> Finding
+    requires { ⌜ Marked (decode (now table)) what (now marks) ⌝ }
+    ensures { λ r. ⌜ findings r ≡ again code (decode (now (table .entry))) (targetOf what (comparedOf what (at (decode (now (table .entry))) place))) place ⌝ }
 {
     if marks::mark_at(marks, place) == 0 {
         return Finding::None;
     }
-    again(code, table, target_of(key, table, place), place)
+    again(code, table, target_of(what, table, place), place)
 }

@@ -6,10 +6,10 @@ ghost use mathlib.Core.Path.{_≡_};
 ghost use Prim.Native.Nat.{_+_, _<_, _≤_};
 ghost use lib.ListN.{length, getD};
 ghost use Rattle.rules.specs.Table.{decode, at};
-ghost use Rattle.repeats.specs.Marks.{selects, keyOf, Marked, Stamped};
+ghost use Rattle.repeats.specs.Marks.{selects, comparedOf, Marked, Stamped};
 
 // What each record of a declaration has of its own.
-pub enum Key {
+pub enum Compared {
     // the names of the fields
     FieldNames,
     // the names of the tags
@@ -23,31 +23,31 @@ pub enum Key {
 }
 
 // Keys are as long as values, names of two bytes among them.
-const KEY_DIVISOR: u64 = DIVISOR as u64;
+const WIDE_DIVISOR: u64 = DIVISOR as u64;
 
-// Whether records of `kind` have such a key.
-fn selects(key: Key, kind: u8) -> bool
-    ensures { λ r. ⌜ r ≡ selects key kind ⌝ }
+// Whether it is compared of records of `kind`.
+fn selects(what: Compared, kind: u8) -> bool
+    ensures { λ r. ⌜ r ≡ selects what kind ⌝ }
 {
-    match key {
-        Key::FieldNames => kinds::is_named_field(kind),
-        Key::TagNames => kinds::is_tag(kind),
-        Key::TagValues => kinds::is_value(kind),
-        Key::Sizes => kinds::is_size_or_count(kind),
-        Key::ElementSizes => kind == kinds::ELEMENT_SIZE,
+    match what {
+        Compared::FieldNames => kinds::is_named_field(kind),
+        Compared::TagNames => kinds::is_tag(kind),
+        Compared::TagValues => kinds::is_value(kind),
+        Compared::Sizes => kinds::is_size_or_count(kind),
+        Compared::ElementSizes => kind == kinds::ELEMENT_SIZE,
     }
 }
 
-// The key of the record at `place`.
-fn key_at(key: Key, table: &[u8], place: usize) -> u64
-    ensures { λ r. ⌜ r ≡ keyOf key (at (decode (now (table .entry))) place) ⌝ }
+// What is compared of the record at `place`.
+fn compared_at(what: Compared, table: &[u8], place: usize) -> u64
+    ensures { λ r. ⌜ r ≡ comparedOf what (at (decode (now (table .entry))) place) ⌝ }
 {
-    match key {
-        Key::FieldNames => table::name(table, place) as u64,
-        Key::TagNames => table::name(table, place) as u64,
-        Key::TagValues => records::at(table, place).one,
-        Key::Sizes => table::second(table, place) as u64,
-        Key::ElementSizes => table::second(table, place) as u64,
+    match what {
+        Compared::FieldNames => table::name(table, place) as u64,
+        Compared::TagNames => table::name(table, place) as u64,
+        Compared::TagValues => records::at(table, place).one,
+        Compared::Sizes => table::second(table, place) as u64,
+        Compared::ElementSizes => table::second(table, place) as u64,
     }
 }
 
@@ -61,20 +61,20 @@ pub fn mark_at(marks: &[u8], place: usize) -> u8
     1
 }
 
-// One place: a zero where no earlier record of the declaration left its stamp for a key of the same remainder.
+// One place: a zero where no earlier record of the declaration left its stamp for the same remainder.
 fn mark_place(
     table: &[u8],
-    key: Key,
+    what: Compared,
     stamp: u16,
     place: usize,
     seen: &mut [u16],
     marks: &mut [u8],
 ) -> u16
-    requires { ⌜ (place < 1600) × (1600 ≤ length (now marks)) × (4093 ≤ length (now seen)) × Marked (decode (now table)) key (now marks) × Stamped (decode (now table)) key (now seen) stamp place ⌝ }
-    ensures { λ r. ⌜ Marked (decode (now (table .entry))) key (now (marks .exit)) × Stamped (decode (now (table .entry))) key (now (seen .exit)) r (place + 1) ⌝ }
+    requires { ⌜ (place < 1600) × (1600 ≤ length (now marks)) × (4093 ≤ length (now seen)) × Marked (decode (now table)) what (now marks) × Stamped (decode (now table)) what (now seen) stamp place ⌝ }
+    ensures { λ r. ⌜ Marked (decode (now (table .entry))) what (now (marks .exit)) × Stamped (decode (now (table .entry))) what (now (seen .exit)) r (place + 1) ⌝ }
 {
     let k = table::kind(table, place);
-    if !selects(key, k) {
+    if !selects(what, k) {
         // A choice of two numbers compiles to no branch; one on where declarations begin would be mispredicted often.
         return if kinds::is_decl(k) {
             (place + 1) as u16
@@ -82,7 +82,7 @@ fn mark_place(
             stamp
         };
     }
-    let h = (key_at(key, table, place) % KEY_DIVISOR) as usize;
+    let h = (compared_at(what, table, place) % WIDE_DIVISOR) as usize;
     if seen[h] == stamp {
         return stamp;
     }
@@ -92,27 +92,27 @@ fn mark_place(
 }
 
 // The first `count` places. Each declaration has its own stamp, so that `seen` is not cleared between them.
-fn mark_places(table: &[u8], key: Key, count: usize, seen: &mut [u16], marks: &mut [u8])
-    requires { ⌜ (count ≤ 1600) × (1600 ≤ length (now marks)) × (4093 ≤ length (now seen)) × Marked (decode (now table)) key (now marks) ⌝ }
-    ensures { λ _. ⌜ Marked (decode (now (table .entry))) key (now (marks .exit)) ⌝ }
+fn mark_places(table: &[u8], what: Compared, count: usize, seen: &mut [u16], marks: &mut [u8])
+    requires { ⌜ (count ≤ 1600) × (1600 ≤ length (now marks)) × (4093 ≤ length (now seen)) × Marked (decode (now table)) what (now marks) ⌝ }
+    ensures { λ _. ⌜ Marked (decode (now (table .entry))) what (now (marks .exit)) ⌝ }
 {
     let mut stamp = 0;
     let mut p = 0;
     while p < count {
-        stamp = mark_place(table, key, stamp, p, seen, marks);
+        stamp = mark_place(table, what, stamp, p, seen, marks);
         p += 1;
     }
 }
 
 // Zeros among the marks, which are ones at first. A table that is too long keeps its ones.
-pub fn mark(table: &[u8], key: Key, marks: &mut [u8])
-    requires { ⌜ (1600 ≤ length (now marks)) × Marked (decode (now table)) key (now marks) ⌝ }
-    ensures { λ _. ⌜ Marked (decode (now (table .entry))) key (now (marks .exit)) ⌝ }
+pub fn mark(table: &[u8], what: Compared, marks: &mut [u8])
+    requires { ⌜ (1600 ≤ length (now marks)) × Marked (decode (now table)) what (now marks) ⌝ }
+    ensures { λ _. ⌜ Marked (decode (now (table .entry))) what (now (marks .exit)) ⌝ }
 {
     let n = table::count(table);
     if MOST_RECORDS < n {
         return;
     }
     let mut seen = [0u16; REMAINDERS];
-    mark_places(table, key, n, &mut seen, marks);
+    mark_places(table, what, n, &mut seen, marks);
 }

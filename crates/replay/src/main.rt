@@ -52,7 +52,7 @@ fn print_order(input: &[u8], faults: &mut [u8], out: &mut [u8]) {
 }
 
 // How many of the faults found a buffer of this length keeps.
-fn kept(found: usize, length: usize) -> usize {
+fn kept_faults(found: usize, length: usize) -> usize {
     let room = length / rules::limits::FAULT_LENGTH;
     if found < room {
         return found;
@@ -69,7 +69,7 @@ fn print_later(listed: &[u8], faults: &mut [u8]) {
         Checked::Faulty(pass, total) => {
             replay_cases::print(pass as u64, b' ');
             let tally = Tally {
-                kept: kept(total, faults.len()),
+                kept: kept_faults(total, faults.len()),
                 total,
             };
             print_faults(tally, faults, b'\n');

@@ -32,7 +32,7 @@ startFor last e x = if ltb (getD last (x % 4093) 65535) e then getD last (x % 40
 
 -- the places kept for the searches from k on: no match stands before the start, no place kept stands before k,
 -- and e is the next declaration from k on, or the end of the table
-pub record Later (rs : List Record) (last : List ℕ) (e k : ℕ) : Type 0 where
+pub record KeptPlaces (rs : List Record) (last : List ℕ) (e k : ℕ) : Type 0 where
   pub skips : (j x : ℕ) → firstFrom rs (matching j x) k ≡ firstFrom rs (matching j x) (startFor last e x)
   pub entries : (h : ℕ) → k ≤ getD last h 65535
   pub members : (i : ℕ) → k ≤ i → i < e → isDecl (at rs i .kind) ≡ false
@@ -49,8 +49,8 @@ SettingStart rs q e last starts =
 
 -- what is asked where the starts for the sizes of the declaration at d are set, of which the next stands at e
 abbrev pub SettingStarts : List Record → ℕ → ℕ → List ℕ → List ℕ → Type 0
-SettingStarts rs d e last starts = (length rs ≤ 1600) × (isDecl (at rs d .kind) ≡ true) × Later rs last e (d + 1) × Filling rs last starts
+SettingStarts rs d e last starts = (length rs ≤ 1600) × (isDecl (at rs d .kind) ≡ true) × KeptPlaces rs last e (d + 1) × Filling rs last starts
 
 -- what is asked where the place p is added to the places kept
 abbrev pub Stepping : List Record → ℕ → ℕ → List ℕ → List ℕ → Type 0
-Stepping rs p e last starts = (p < length rs) × (length rs ≤ 1600) × Later rs last e (p + 1) × Filling rs last starts
+Stepping rs p e last starts = (p < length rs) × (length rs ≤ 1600) × KeptPlaces rs last e (p + 1) × Filling rs last starts

@@ -2,7 +2,7 @@
 use faults::Finding;
 use kinds::is_size;
 use repeats::again_marked;
-use repeats::marks::Key;
+use repeats::marks::Compared;
 use rules::codes;
 ghost use mathlib.Core.Path.{_≡_};
 ghost use Prim.Native.Nat.{_≤_};
@@ -11,14 +11,17 @@ ghost use Rattle.rules.specs.Kinds.{size};
 ghost use Rattle.rules.specs.SizeFields.{sizeCode, sizeAgain};
 ghost use Rattle.faults.specs.Notes.{findings};
 ghost use Rattle.repeats.specs.Marks.{Marked};
-ghost use Rattle.repeats.specs.declared.marks.Key.the-variants.{Sizes, ElementSizes};
+ghost use Rattle.repeats.specs.declared.marks.Compared.the-variants.{Sizes, ElementSizes};
+
+// How far the codes of Size, Count and ElementSize are apart.
+const CODES_EACH: u16 = codes::DUPLICATE_COUNT_FIELD - codes::DUPLICATE_SIZE_FIELD;
 
 // The code of a repeat, before those for missing and for no array.
 pub(crate) fn size_code(kind: u8) -> u16
     requires { ⌜ size ≤ kind ⌝ }
     ensures { λ r. ⌜ r ≡ sizeCode kind ⌝ }
 {
-    codes::DUPLICATE_SIZE_FIELD + 3 * ((kind - kinds::SIZE) as u16)
+    codes::DUPLICATE_SIZE_FIELD + CODES_EACH * ((kind - kinds::SIZE) as u16)
 }
 
 // First a repeat: 23, 26, 29. Size and Count share one map, and ElementSize has its own.
@@ -32,7 +35,7 @@ pub fn size_again(table: &[u8], sizes: &[u8], elements: &[u8], place: usize) -> 
     }
     let code = size_code(k);
     if k == kinds::ELEMENT_SIZE {
-        return again_marked(code, table, Key::ElementSizes, place, elements);
+        return again_marked(code, table, Compared::ElementSizes, place, elements);
     }
-    again_marked(code, table, Key::Sizes, place, sizes)
+    again_marked(code, table, Compared::Sizes, place, sizes)
 }

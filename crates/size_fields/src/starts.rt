@@ -10,7 +10,7 @@ ghost use mathlib.Core.Path.{_≡_};
 ghost use Prim.Native.Nat.{_≤_};
 ghost use lib.ListN.{length, replicate};
 ghost use Rattle.rules.specs.Table.{decode, at};
-ghost use Rattle.size_fields.specs.SizeStarts.{SizeStarts, nameOf, startFor, Later, SettingStart, SettingStarts, Stepping};
+ghost use Rattle.size_fields.specs.SizeStarts.{SizeStarts, nameOf, startFor, KeptPlaces, SettingStart, SettingStarts, Stepping};
 
 // The only name by which a size can mean the record at `place`.
 fn name_of(table: &[u8], place: usize) -> u16
@@ -65,7 +65,7 @@ fn set_starts(table: &[u8], decl: usize, end: usize, last: &[u16], starts: &mut 
 // One place more. The result is the next declaration from `place` on.
 fn step(table: &[u8], place: usize, end: usize, last: &mut [u16], starts: &mut [u16]) -> usize
     requires { ⌜ Stepping (decode (now table)) place end (now last) (now starts) ⌝ }
-    ensures { λ r. ⌜ SizeStarts (decode (now (table .entry))) (now (starts .exit)) × Later (decode (now (table .entry))) (now (last .exit)) r place ⌝ }
+    ensures { λ r. ⌜ SizeStarts (decode (now (table .entry))) (now (starts .exit)) × KeptPlaces (decode (now (table .entry))) (now (last .exit)) r place ⌝ }
 {
     if is_decl(table::kind(table, place)) {
         set_starts(table, place, end, last, starts);

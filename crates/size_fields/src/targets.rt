@@ -5,6 +5,7 @@ use faults::Finding;
 use kinds::is_size;
 use rules::Found;
 use rules::Target;
+use rules::codes;
 ghost use mathlib.Core.Path.{_≡_};
 ghost use Prim.Native.Nat.{_+_, _<_};
 ghost use Rattle.rules.specs.Table.{decode};
@@ -28,6 +29,11 @@ fn is_sized(kind: u8) -> bool
     kinds::is_payload(kind) | (kind == kinds::ARRAY)
 }
 
+// How far the codes for missing and for no array are behind that of a repeat.
+const MISSING: u16 = codes::UNDECLARED_SIZE_IDENTIFIER - codes::DUPLICATE_SIZE_FIELD;
+
+const NO_ARRAY: u16 = codes::INVALID_SIZE_IDENTIFIER - codes::DUPLICATE_SIZE_FIELD;
+
 // Missing, or the first match no array.
 fn misnamed(code: u16, table: &[u8], place: usize, found: Found) -> Finding
     requires { ⌜ code + 2 < 65536 ⌝ }
@@ -39,14 +45,14 @@ fn misnamed(code: u16, table: &[u8], place: usize, found: Found) -> Finding
             let s = records::at(table, q);
             let k = s.kind;
             if kinds::is_decl(k) {
-                return Finding::One(faults::fault::single(code + 1, r));
+                return Finding::One(faults::fault::single(code + MISSING, r));
             }
             if is_sized(k) {
                 return Finding::None;
             }
-            Finding::One(faults::fault::double(code + 2, r, s))
+            Finding::One(faults::fault::double(code + NO_ARRAY, r, s))
         }
-        Found::Nothing => Finding::One(faults::fault::single(code + 1, r)),
+        Found::Nothing => Finding::One(faults::fault::single(code + MISSING, r)),
     }
 }
 

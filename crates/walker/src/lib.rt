@@ -5,9 +5,9 @@ ghost use Prim.Native.Nat.{_+_};
 ghost use Rattle.rules.specs.Table.{decode, at};
 ghost use Rattle.walker.specs.Steps.{nextPlace};
 
-pub struct Walker<'a> {
-    pub table: &'a [u8],
-    pub place: usize,
+struct Walker<'a> {
+    table: &'a [u8],
+    place: usize,
 }
 
 // The place behind `place`; past the end `place` stays.
@@ -21,21 +21,21 @@ fn next_place(table: &[u8], place: usize) -> usize
 }
 
 // A walker at a place of a table.
-pub fn new<'a>(table: &'a [u8], place: usize) -> Walker<'a>
+fn new<'a>(table: &'a [u8], place: usize) -> Walker<'a>
     ensures { λ r. ⌜ (r .table ≡ table .entry) × (r .place ≡ place) ⌝ }
 {
     Walker { table, place }
 }
 
 // The kind of the record at the walker's place: 0 past the end.
-pub fn kind<'a>(walker: Walker<'a>) -> u8
+fn kind<'a>(walker: Walker<'a>) -> u8
     ensures { λ r. ⌜ r ≡ at (decode (now (walker .entry .table))) (walker .entry .place) .kind ⌝ }
 {
     table::kind(walker.table, walker.place)
 }
 
 // The walker at the next place.
-pub fn step<'a>(walker: Walker<'a>) -> Walker<'a>
+fn step<'a>(walker: Walker<'a>) -> Walker<'a>
     ensures { λ r. ⌜ (r .table ≡ walker .entry .table) × (r .place ≡ nextPlace (decode (now (walker .entry .table))) (walker .entry .place)) ⌝ }
 {
     let next = next_place(walker.table, walker.place);

@@ -19,7 +19,7 @@ returns-2 c =
     let a = b .before in
     let f = a .before in
     let s = f .before .before .before in
-    loose-as (decode (now (s .args .table))) (s .args .place) (a .at .ensures) (sym (f .before .kind .ensures) ∙ f .if1 .left) (k .kind2 .ensures ∙ rw (b .before2 .ensures)) (i .is-named-field .ensures)
+    loose-as (decode (now (s .args .table))) (s .args .place) (a .at .ensures) (sym (f .before .kind .ensures) ∙ f .if1 .left) (k .kind2 .ensures ∙ rw (b .place-before .ensures)) (i .is-named-field .ensures)
 
 pub loose-at-spec : {M : Type 1} → statement M
 loose-at-spec =

@@ -9,7 +9,7 @@ use Rattle.rules.specs.Table.{decode}
 use Rattle.rules.specs.Places.{each}
 use Rattle.rules.specs.Faults.{log}
 use Rattle.rules.specs.EnumDeclarations.{pass4At, pass4}
-use Rattle.faults.specs.Notes.{none, notedAll}
+use Rattle.faults.specs.Notes.{noFaults, notedAll}
 use Rattle.faults.proofs.Laws.{noted-start, noted-place, noted-end, noted-logged, each-total}
 use Rattle.enum_declarations.proofs.Laws.{place-few}
 use Rattle.enum_declarations.proofs.note_enums.Statement.{statement}
@@ -17,7 +17,7 @@ use Rattle.enum_declarations.proofs.note_enums.Tie as tie
 
 abbrev Inv-loop : tie.InvT-loop
 Inv-loop t names values s₀ lows₀ highs₀ buffer₀ n tally₀ d₀ s lows highs buffer tally d =
-    (log tally buffer ≡ notedAll (log none buffer₀) (each (pass4At (decode t)) d)) × (d ≤ n) × (n ≡ length (decode t))
+    (log tally buffer ≡ notedAll (log noFaults buffer₀) (each (pass4At (decode t)) d)) × (d ≤ n) × (n ≡ length (decode t))
     × (length buffer ≡ length buffer₀) × (length s ≡ length s₀) × (length lows ≡ length lows₀) × (length highs ≡ length highs₀)
 
 abbrev μ-loop : tie.MeasureT-loop
@@ -32,7 +32,7 @@ note-place-requires : tie.Need-note-place-requires Inv-loop μ-loop
 note-place-requires c κs =
     let l = c .before .before .before .before .before in
     let s = l .before .before .before .before .before .before .before .before .before .before in
-    let total = each-total _ 3000000 (l .loop .d) none _ (place-few (decode (now (s .args .table))) (search needs)) (l .loop .inv .0) in
+    let total = each-total _ 3000000 (l .loop .d) noFaults _ (place-few (decode (now (s .args .table))) (search needs)) (l .loop .inv .0) in
     (search needs, search needs, omega arith, (search needs, search needs, search needs, search needs, search needs))
 
 loop-again : tie.Need-loop-again Inv-loop μ-loop

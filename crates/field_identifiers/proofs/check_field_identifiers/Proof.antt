@@ -11,7 +11,7 @@ use Rattle.rules.specs.Places.{each}
 use Rattle.rules.specs.Faults.{log}
 use Rattle.rules.specs.FieldIdentifiers.{pass3At, pass3}
 use Rattle.rules.specs.declared.Tally.{Tally}
-use Rattle.faults.specs.Notes.{none, notedAll}
+use Rattle.faults.specs.Notes.{noFaults, notedAll}
 use Rattle.faults.proofs.Laws.{noted-start, noted-place, noted-end, noted-logged}
 use Rattle.table.proofs.Laws.{length-decode}
 use Rattle.field_identifiers.proofs.check_field_identifiers.Statement.{statement}
@@ -19,7 +19,7 @@ use Rattle.field_identifiers.proofs.check_field_identifiers.Tie as tie
 
 abbrev Inv-loop : tie.InvT-loop
 Inv-loop t names buffer₀ n tally₀ p₀ buffer tally p =
-    (log tally buffer ≡ notedAll (log none buffer₀) (each (pass3At (decode t)) p)) × (p ≤ n) × (n ≡ length (decode t)) × (length buffer ≡ length buffer₀) × (tally .total ≤ p)
+    (log tally buffer ≡ notedAll (log noFaults buffer₀) (each (pass3At (decode t)) p)) × (p ≤ n) × (n ≡ length (decode t)) × (length buffer ≡ length buffer₀) × (tally .total ≤ p)
 
 abbrev μ-loop : tie.MeasureT-loop
 μ-loop t names buffer₀ n tally₀ p₀ buffer tally p = n - p

@@ -11,7 +11,7 @@ returns : tie.Need-returns
 returns c =
     let f = c .before in
     let s = f .before .before .before in
-    entry-as (decode (now (s .args .table))) (s .args .place) (c .at2 .ensures) (f .at .ensures ∙ rw (f .before .before2 .ensures))
+    entry-as (decode (now (s .args .table))) (s .args .place) (c .at2 .ensures) (f .at .ensures ∙ rw (f .before .place-before .ensures))
 
 pub entry-of-spec : {M : Type 1} → statement M
 entry-of-spec =

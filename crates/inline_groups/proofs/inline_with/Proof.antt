@@ -10,7 +10,7 @@ returns c =
     let m = c .before .before .before .before .before in
     let r = m .before .before .before .before .before in
     let s = r .before .before .before .before .before .before .before in
-    ret-swollen (s .pre .1) (r .resolve .ensures) (m .measure .ensures) (rw (c .before .total .ensures) at (c .if1 .taken)) (now (s .args .out))
+    ret-swollen (s .pre .1) (r .fill .ensures) (m .measure .ensures) (rw (c .before .total .ensures) at (c .if1 .taken)) (now (s .args .out))
 
 returns-2 : tie.Need-returns-2
 returns-2 c =
@@ -19,7 +19,7 @@ returns-2 c =
     let r = m .before .before .before .before .before in
     let s = r .before .before .before .before .before .before .before in
     let e = i .before .total .ensures in
-    ret-buffer-short (s .pre .1) (r .resolve .ensures) (m .measure .ensures) (rw e at (i .if1 .left)) (now (s .args .out)) (rw e at (c .if2 .taken))
+    ret-buffer-short (s .pre .1) (r .fill .ensures) (m .measure .ensures) (rw e at (i .if1 .left)) (now (s .args .out)) (rw e at (c .if2 .taken))
 
 write-all-requires : tie.Need-write-all-requires
 write-all-requires c κs =
@@ -31,7 +31,7 @@ write-all-requires c κs =
       record {
         few = s .pre .0 .0;
         groups = s .pre .1;
-        resolved = r .resolve .ensures;
+        resolved = r .fill .ensures;
         sized = m .measure .ensures;
         stack = s .pre .0 .3;
         wide = rw e at (c .before .before .before .before .if2 .left);
@@ -47,8 +47,8 @@ returns-3 c =
     let r = m .before .before .before .before .before in
     let s = r .before .before .before .before .before .before .before in
     let e = i .before .total .ensures in
-    ret-fits (s .pre .1) (r .resolve .ensures) (m .measure .ensures) (rw e at (i .if1 .left)) (now (s .args .out)) (rw e at (j .if2 .left))
-    (c .before .before .before .before .before .write-all .ensures) (c .answer .ensures)
+    ret-fits (s .pre .1) (r .fill .ensures) (m .measure .ensures) (rw e at (i .if1 .left)) (now (s .args .out)) (rw e at (j .if2 .left))
+    (c .before .before .before .before .before .write-all .ensures) (c .by-fit .ensures)
 
 pub inline-with-spec : {M : Type 1} → statement M
 inline-with-spec =

@@ -1,10 +1,10 @@
 -- `kinds::is_kept` meets its contract. Assumes nothing.
-use mathlib.Core.Path.{refl}
+use borrow.Author.Needs.{needs}
 use Rattle.kinds.proofs.is_kept.Statement.{statement}
 use Rattle.kinds.proofs.is_kept.Tie as tie
 
 returns : tie.Need-returns
-returns c = refl
+returns c = rw (c .is-decl .ensures)
 
 pub is-kept-spec : {M : Type 1} → statement M
-is-kept-spec = tie.close (tie.spec returns)
+is-kept-spec = tie.close (tie.spec (λ c κs. search needs) returns)

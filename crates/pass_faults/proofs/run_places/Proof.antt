@@ -9,7 +9,7 @@ use Rattle.rules.specs.Table.{decode}
 use Rattle.rules.specs.Places.{each}
 use Rattle.rules.specs.Faults.{log, logged}
 use Rattle.rules.specs.declared.Tally.{Tally}
-use Rattle.faults.specs.Notes.{none, notedAll}
+use Rattle.faults.specs.Notes.{noFaults, notedAll}
 use Rattle.faults.proofs.Laws.{noted-start, noted-place, noted-end, noted-logged}
 use Rattle.table.proofs.Laws.{length-decode}
 use Rattle.pass_faults.specs.Passes.{passAt}
@@ -20,7 +20,7 @@ use Rattle.pass_faults.proofs.run_places.Tie as tie
 
 abbrev Inv-loop : tie.InvT-loop
 Inv-loop pass t marks more places buffer₀ n kinds tally₀ p₀ buffer tally p =
-    (log tally buffer ≡ notedAll (log none buffer₀) (each (passAt pass (decode t)) p)) × (p ≤ n) × (n ≡ length (decode t)) × (length buffer ≡ length buffer₀) × (tally .total ≤ 2 * p)
+    (log tally buffer ≡ notedAll (log noFaults buffer₀) (each (passAt pass (decode t)) p)) × (p ≤ n) × (n ≡ length (decode t)) × (length buffer ≡ length buffer₀) × (tally .total ≤ 2 * p)
 
 abbrev μ-loop : tie.MeasureT-loop
 μ-loop pass t marks more places buffer₀ n kinds tally₀ p₀ buffer tally p = n - p

@@ -14,7 +14,7 @@ told : (r : Reply) (t f : List ℕ) {n : List ℕ} {a : Answer} → n ≡ header
 told r t f e h = ap (λ (m : List ℕ). outputs m t f) e ∙ ap headerAnswer h
 
 returns : tie.Need-returns
-returns c = told (c .before .before .before .before .before .analyze .result) _ _ (c .numbers .ensures) (c .before .before .before .before .before .analyze .ensures)
+returns c = told (c .before .before .before .before .before .analyze .result) _ _ (c .header-numbers .ensures) (c .before .before .before .before .before .analyze .ensures)
 
 pub pdl-analyze-spec : {M : Type 1} → statement M
 pdl-analyze-spec = tie.close (tie.spec (λ c κs. search needs) (λ c κs. search needs) (λ c. search needs) (λ c. search needs) returns)

@@ -20,7 +20,7 @@ unfolding numbered detail
 returns c =
     let f = c .before .before in
     let k = f .before in
-    rw (k .before .before .before .reply .given .1, ← k .kept .ensures) (f .append-faults .ensures)
+    rw (k .before .before .before .reply .given .1, ← k .kept-faults .ensures) (f .append-faults .ensures)
 
 returns-2 : tie.Need-returns-2
 unfolding numbered detail

@@ -9,7 +9,7 @@ returns : tie.Need-returns
 returns c =
     let m = c .before in
     let s = m .before .before .before in
-    not-again _ _ (s .args .key) _ (s .args .place) (s .pre .clear (s .args .place) (sym (m .mark-at .ensures) ∙ c .if1 .taken))
+    not-again _ _ (s .args .what) _ (s .args .place) (s .pre .clear (s .args .place) (sym (m .mark-at .ensures) ∙ c .if1 .taken))
 
 returns-2 : tie.Need-returns-2
 returns-2 c =

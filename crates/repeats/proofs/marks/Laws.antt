@@ -14,32 +14,32 @@ use Rattle.rules.specs.Table.{at}
 use Rattle.rules.specs.Places.{nearest, holds, foundInside}
 use Rattle.rules.specs.declared.Record.{Record}
 use Rattle.table.proofs.Searches.{false-true, and-true, and-false}
-use Rattle.repeats.specs.Marks.{selects, keyOf, targetOf, earlier, Marked, Stamped}
-use Rattle.repeats.specs.declared.marks.Key.{Key}
-use Rattle.repeats.specs.declared.marks.Key.the-variants.{FieldNames, TagNames, TagValues, Sizes, ElementSizes}
+use Rattle.repeats.specs.Marks.{selects, comparedOf, targetOf, hasEarlier, Marked, Stamped}
+use Rattle.repeats.specs.declared.marks.Compared.{Compared}
+use Rattle.repeats.specs.declared.marks.Compared.the-variants.{FieldNames, TagNames, TagValues, Sizes, ElementSizes}
 
 -- a search for a key stops at a declaration and at each record that has it
-holds-as : (what : Key) (n : ℕ) (r : Record) → holds (targetOf what n) r ≡ (isDecl (r .kind) || (selects what (r .kind) && eqb (keyOf what r) n))
+holds-as : (what : Compared) (n : ℕ) (r : Record) → holds (targetOf what n) r ≡ (isDecl (r .kind) || (selects what (r .kind) && eqb (comparedOf what r) n))
 holds-as FieldNames n r = refl
 holds-as TagNames n r = refl
 holds-as TagValues n r = refl
 holds-as Sizes n r = refl
 holds-as ElementSizes n r = refl
 
-module _ (rs : List Record) (what : Key) (p : ℕ) where
-  miss : (n : ℕ) → holds (targetOf what n) (at rs p) ≡ false → earlier rs what n (p + 1) ≡ earlier rs what n p
-  unfolding earlier nearest
+module _ (rs : List Record) (what : Compared) (p : ℕ) where
+  miss : (n : ℕ) → holds (targetOf what n) (at rs p) ≡ false → hasEarlier rs what n (p + 1) ≡ hasEarlier rs what n p
+  unfolding hasEarlier nearest
   miss n e = rw (add-one, nearest, e)
 
-  hit : (n : ℕ) → holds (targetOf what n) (at rs p) ≡ true → isDecl (at rs p .kind) ≡ true → earlier rs what n (p + 1) ≡ false
-  unfolding earlier nearest foundInside
+  hit : (n : ℕ) → holds (targetOf what n) (at rs p) ≡ true → isDecl (at rs p .kind) ≡ true → hasEarlier rs what n (p + 1) ≡ false
+  unfolding hasEarlier nearest foundInside
   hit n e d = rw (add-one, nearest, e, foundInside, d)
 
 -- a record that has a key is no declaration
 not-decl : (k : ℕ) → 7 < k → isDecl k ≡ false
 not-decl k h = rw (lt-leb k 7 h) (and-false (leb 1 k))
 
-selected-not-decl : (what : Key) (k : ℕ) → selects what k ≡ true → isDecl k ≡ false
+selected-not-decl : (what : Compared) (k : ℕ) → selects what k ≡ true → isDecl k ≡ false
 selected-not-decl FieldNames k e = not-decl k (omega (arith, leb-true 30 k (and-true _ _ e .0)))
 selected-not-decl TagNames k e = not-decl k (omega (arith, leb-true 40 k (and-true _ _ e .0)))
 selected-not-decl TagValues k e = go (eqb k 40) refl
@@ -51,12 +51,12 @@ selected-not-decl Sizes k e = not-decl k (omega (arith, leb-true 22 k (and-true 
 selected-not-decl ElementSizes k e = not-decl k (omega (arith, eqb-true k 24 e))
 
 -- before the first place
-pub stamped-start : (rs : List Record) (what : Key) (seen : List ℕ) (stamp : ℕ) → Stamped rs what seen stamp 0
-unfolding earlier nearest foundInside
+pub stamped-start : (rs : List Record) (what : Compared) (seen : List ℕ) (stamp : ℕ) → Stamped rs what seen stamp 0
+unfolding hasEarlier nearest foundInside
 stamped-start rs what seen stamp = record { known = λ n e. false-true e }
 
 -- a declaration, a record without a key, and one with a key, at p
-module _ (rs : List Record) (what : Key) (p : ℕ) (seen : List ℕ) (stamp : ℕ) where
+module _ (rs : List Record) (what : Compared) (p : ℕ) (seen : List ℕ) (stamp : ℕ) where
   pub stamped-decl : isDecl (at rs p .kind) ≡ true → Stamped rs what seen stamp (p + 1)
   stamped-decl d =
       record { known = λ n e. false-true (sym (hit rs what p n (holds-as what n (at rs p) ∙ rw d) d) ∙ e) }
@@ -66,19 +66,19 @@ module _ (rs : List Record) (what : Key) (p : ℕ) (seen : List ℕ) (stamp : �
       record { known = λ n h. s .known n (sym (miss rs what p n (holds-as what n (at rs p) ∙ rw (d, e))) ∙ h) }
 
   pub stamped-one : (seen′ : List ℕ) → Stamped rs what seen stamp p → selects what (at rs p .kind) ≡ true
-      → getD seen′ (keyOf what (at rs p) % 4093) 0 ≡ stamp → ((j : ℕ) → getD seen j 0 ≡ stamp → getD seen′ j 0 ≡ stamp) → Stamped rs what seen′ stamp (p + 1)
-  stamped-one seen′ s e here kept = record { known = λ n h. go n h (eqb (keyOf what (at rs p)) n) refl }
+      → getD seen′ (comparedOf what (at rs p) % 4093) 0 ≡ stamp → ((j : ℕ) → getD seen j 0 ≡ stamp → getD seen′ j 0 ≡ stamp) → Stamped rs what seen′ stamp (p + 1)
+  stamped-one seen′ s e here kept = record { known = λ n h. go n h (eqb (comparedOf what (at rs p)) n) refl }
     where
-      go : (n : ℕ) → earlier rs what n (p + 1) ≡ true → (b : Bool) → eqb (keyOf what (at rs p)) n ≡ b → getD seen′ (n % 4093) 0 ≡ stamp
-      go n h true k = rw (← eqb-true (keyOf what (at rs p)) n k) here
+      go : (n : ℕ) → hasEarlier rs what n (p + 1) ≡ true → (b : Bool) → eqb (comparedOf what (at rs p)) n ≡ b → getD seen′ (n % 4093) 0 ≡ stamp
+      go n h true k = rw (← eqb-true (comparedOf what (at rs p)) n k) here
       go n h false k = kept (n % 4093) (s .known n (sym (miss rs what p n (holds-as what n (at rs p) ∙ rw (selected-not-decl what (at rs p .kind) e, e, k))) ∙ h))
 
   -- a key that left no stamp is new
-  pub new-key : Stamped rs what seen stamp p → (getD seen (keyOf what (at rs p) % 4093) 0 ≡ stamp → ⊥) → earlier rs what (keyOf what (at rs p)) p ≡ false
-  new-key s h = go (earlier rs what (keyOf what (at rs p)) p) refl
+  pub new-key : Stamped rs what seen stamp p → (getD seen (comparedOf what (at rs p) % 4093) 0 ≡ stamp → ⊥) → hasEarlier rs what (comparedOf what (at rs p)) p ≡ false
+  new-key s h = go (hasEarlier rs what (comparedOf what (at rs p)) p) refl
     where
-      go : (b : Bool) → earlier rs what (keyOf what (at rs p)) p ≡ b → earlier rs what (keyOf what (at rs p)) p ≡ false
-      go true e = absurd (h (s .known (keyOf what (at rs p)) e))
+      go : (b : Bool) → hasEarlier rs what (comparedOf what (at rs p)) p ≡ b → hasEarlier rs what (comparedOf what (at rs p)) p ≡ false
+      go true e = absurd (h (s .known (comparedOf what (at rs p)) e))
       go false e = e
 
 -- what stood there stays, or was written
@@ -90,10 +90,10 @@ set-kept l i j x h e = go (eqb j i) refl
     go false k = getD-set-other l i j x 0 (eqb-false j i k) ∙ e
 
 -- a zero more
-pub marked-one : (rs : List Record) (what : Key) (marks : List ℕ) (p : ℕ) → Marked rs what marks → earlier rs what (keyOf what (at rs p)) p ≡ false → Marked rs what (set marks p 0)
+pub marked-one : (rs : List Record) (what : Compared) (marks : List ℕ) (p : ℕ) → Marked rs what marks → hasEarlier rs what (comparedOf what (at rs p)) p ≡ false → Marked rs what (set marks p 0)
 marked-one rs what marks p m h = record { clear = λ q e. go q e (eqb q p) refl }
   where
-    go : (q : ℕ) → getD (set marks p 0) q 1 ≡ 0 → (b : Bool) → eqb q p ≡ b → earlier rs what (keyOf what (at rs q)) q ≡ false
+    go : (q : ℕ) → getD (set marks p 0) q 1 ≡ 0 → (b : Bool) → eqb q p ≡ b → hasEarlier rs what (comparedOf what (at rs q)) q ≡ false
     go q e true k = rw (eqb-true q p k) h
     go q e false k = m .clear q (sym (getD-set-other marks p q 0 1 (eqb-false q p k)) ∙ e)
 
@@ -105,5 +105,5 @@ one-everywhere n p = go (leb (suc p) n) refl
     go true h = getD-replicate n p 1 1 (leb-true (suc p) n h)
     go false h = List·getD-eq-default (replicate n 1) 1 (rw length-replicate (let z : n < suc p = leb-false (suc p) n h in omega arith))
 
-pub marked-ones : (rs : List Record) (what : Key) (n : ℕ) → Marked rs what (replicate n 1)
+pub marked-ones : (rs : List Record) (what : Compared) (n : ℕ) → Marked rs what (replicate n 1)
 marked-ones rs what n = record { clear = λ p e. absurd (omega (arith, one-everywhere n p, e)) }

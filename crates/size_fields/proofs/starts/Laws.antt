@@ -19,7 +19,7 @@ use Rattle.rules.specs.declared.Found.the-variants.{At}
 use Rattle.rules.specs.declared.Target.the-variants.{Decl}
 use Rattle.table.proofs.Laws.{up-miss, same-default}
 use Rattle.table.proofs.Searches.{and-false, nearest-is}
-use Rattle.size_fields.specs.SizeStarts.{targetAt, SizeStarts, nameOf, startFor, Later}
+use Rattle.size_fields.specs.SizeStarts.{targetAt, SizeStarts, nameOf, startFor, KeptPlaces}
 
 -- ---- nothing known
 
@@ -92,7 +92,7 @@ module _ (last : List ℕ) (e x : ℕ) (l : 4093 ≤ length last) where
 
 module _ (rs : List Record) (last : List ℕ) where
   -- no place is kept at first
-  pub later-none : length rs ≤ 1600 → last ≡ replicate 4093 65535 → Later rs last (length rs) (length rs)
+  pub later-none : length rs ≤ 1600 → last ≡ replicate 4093 65535 → KeptPlaces rs last (length rs) (length rs)
   later-none l e =
       let u : (h : ℕ) → getD last h 65535 ≡ 65535 = λ h. ap (λ (s : List ℕ). getD s h 65535) e ∙ none-known 4093 h in
       record {
@@ -103,15 +103,15 @@ module _ (rs : List Record) (last : List ℕ) where
       }
 
   -- at q, behind the declaration at d
-  pub later-within : (e d q : ℕ) → Later rs last e (d + 1) → isDecl (at rs d .kind) ≡ true → d < q → q < e
+  pub later-within : (e d q : ℕ) → KeptPlaces rs last e (d + 1) → isDecl (at rs d .kind) ≡ true → d < q → q < e
       → firstWithin rs (targetAt rs q) q ≡ firstFrom rs (targetAt rs q) (startFor last e (at rs q .second))
   unfolding firstWithin firstAfter
   later-within e d q w h a b =
       let n : nearest (holdsAt rs Decl) q ≡ At d = nearest-is (holdsAt rs Decl) q d a h (λ i c f. w .members i (omega arith) (omega arith)) in
       rw n (w .skips (at rs q .kind) (at rs q .second))
 
-  module _ (e p : ℕ) (l : p < length rs) (w : Later rs last e (p + 1)) where
-    pub later-decl : Later rs last p p
+  module _ (e p : ℕ) (l : p < length rs) (w : KeptPlaces rs last e (p + 1)) where
+    pub later-decl : KeptPlaces rs last p p
     later-decl =
         record {
           skips = λ j x. ap (firstFrom rs (matching j x)) (sym (start-end last p x (omega (arith, w .entries (x % 4093)))));
@@ -121,7 +121,7 @@ module _ (rs : List Record) (last : List ℕ) where
         }
 
     pub later-other : (y : ℕ) → y ≡ nameOf (at rs p) → 4093 ≤ length last → isDecl (at rs p .kind) ≡ false
-        → Later rs (set last (y % 4093) p) e p
+        → KeptPlaces rs (set last (y % 4093) p) e p
     later-other y n f d =
         record {
           skips = λ j x. from j x (ℕ-discrete (x % 4093) (y % 4093));

@@ -37,7 +37,7 @@ use denote.Exit.{yes}
 use denote.Triple.Clauses.{ensured, lasts}
 use Rattle.rules.specs.Table.{decode, at}
 use Rattle.walker.specs.declared.Walker.{Walker}
-use Rattle.walker.proofs.Held.{B, D, L, fields, passed, Own, apart}
+use Rattle.walker.proofs.Parts.{B, D, L, fields, passed, Own, apart}
 use Rattle.walker.proofs.Walker.Laws as T′
 use Rattle.table.proofs.kind as found-kind
 use Rattle.table.proofs.kind.Symbol as found-def

@@ -45,7 +45,7 @@ use Rattle.walker.specs.Steps.{nextPlace}
 use Rattle.walker.specs.declared.Walker.{Walker}
 use Rattle.walker.proofs.Walker as T
 use Rattle.walker.proofs.Walker.Laws as T′
-use Rattle.walker.proofs.Held.{B, handed}
+use Rattle.walker.proofs.Parts.{B, handed}
 use Rattle.walker.proofs.Laws.{at-next}
 use Rattle.walker.proofs.new as new
 use Rattle.walker.proofs.new.Symbol as new-def

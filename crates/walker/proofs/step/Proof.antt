@@ -41,7 +41,7 @@ use denote.Triple.Clauses.{ensured, lasts}
 use Rattle.rules.specs.Table.{decode}
 use Rattle.walker.specs.Steps.{nextPlace}
 use Rattle.walker.specs.declared.Walker.{Walker}
-use Rattle.walker.proofs.Held.{B, D, L, fields, passed, Own, twice, apart}
+use Rattle.walker.proofs.Parts.{B, D, L, fields, passed, Own, twice, apart}
 use Rattle.walker.proofs.Walker.Laws as T′
 use Rattle.walker.proofs.next_place as np
 use Rattle.walker.proofs.next_place.Symbol as np-def

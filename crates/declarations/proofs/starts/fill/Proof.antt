@@ -22,8 +22,8 @@ loop-holds c =
     let e = c .count .ensures in
     (rw e (starts-past _ _ (s .pre .0) (s .pre .1)), omega arith, refl, ap length (s .pre .1) ∙ length-replicate {A = ℕ} 4093 65535)
 
-start-at-requires : tie.Need-start-at-requires Inv-loop μ-loop
-start-at-requires c κs =
+set-start-requires : tie.Need-set-start-requires Inv-loop μ-loop
+set-start-requires c κs =
     let l = c .before .before in
     let v = l .loop .inv in
     let h = c .before .loop-test .taken in
@@ -34,7 +34,7 @@ loop-again : tie.Need-loop-again Inv-loop μ-loop
 loop-again c =
     let s = c .before .before in
     let v = s .before .before .before .loop .inv in
-    (s .start-at .ensures, omega (arith, v .1), search needs, v .3)
+    (s .set-start .ensures, omega (arith, v .1), search needs, v .3)
 
 returns : tie.Need-returns Inv-loop μ-loop
 returns c =
@@ -46,5 +46,5 @@ pub fill-spec : {M : Type 1} → statement M
 fill-spec =
     tie.close
     (tie.spec
-    Inv-loop μ-loop (λ c κs. search needs) loop-holds (λ c. search needs) start-at-requires (λ c. search needs) loop-again
+    Inv-loop μ-loop (λ c κs. search needs) loop-holds (λ c. search needs) set-start-requires (λ c. search needs) loop-again
     (λ c. c .before .loop .inv .2) returns)

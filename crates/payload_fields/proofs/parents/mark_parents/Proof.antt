@@ -5,13 +5,13 @@ use Prim.Native.Nat.{_-_, _≤_}
 use mathlib.Core.Path.{_≡_, refl, _∙_}
 use lib.ListN.{length}
 use Rattle.rules.specs.Table.{decode}
-use Rattle.payload_fields.specs.Parents.{Childless}
+use Rattle.payload_fields.specs.Parents.{NoChildWithField}
 use Rattle.payload_fields.proofs.parents.Laws.{childless-start}
 use Rattle.payload_fields.proofs.parents.mark_parents.Statement.{statement}
 use Rattle.payload_fields.proofs.parents.mark_parents.Tie as tie
 
 abbrev Inv-loop : tie.InvT-loop
-Inv-loop t parents₀ n c₀ parents c = Childless (decode t) parents c × (c ≤ n) × (n ≡ length (decode t)) × (length parents ≡ length parents₀)
+Inv-loop t parents₀ n c₀ parents c = NoChildWithField (decode t) parents c × (c ≤ n) × (n ≡ length (decode t)) × (length parents ≡ length parents₀)
 
 abbrev μ-loop : tie.MeasureT-loop
 μ-loop t parents₀ n c₀ parents c = n - c

@@ -33,7 +33,7 @@ returns-3 c =
     let e = i .before in
     let k = e .before in
     let s = k .before .before .before .before in
-    (s .pre .3, stamped-one _ _ _ _ _ _ (s .pre .4) (rw (← k .kind .ensures) (sym (e .selects .ensures) ∙ not-false _ (i .if1 .left))) (rw (← y .key-at .ensures) (c .if3 .taken)) (λ j h. h))
+    (s .pre .3, stamped-one _ _ _ _ _ _ (s .pre .4) (rw (← k .kind .ensures) (sym (e .selects .ensures) ∙ not-false _ (i .if1 .left))) (rw (← y .compared-at .ensures) (c .if3 .taken)) (λ j h. h))
 
 same-length : tie.Need-same-length
 same-length c = search needs
@@ -48,9 +48,9 @@ returns-4 c =
     let e = i .before in
     let k = e .before in
     let s = k .before .before .before .before in
-    let h : ℕ = y .key-at .result % 4093 in
+    let h : ℕ = y .compared-at .result % 4093 in
     let fits : h < length (now (s .args .seen)) = search needs in
-    (marked-one _ _ _ _ (s .pre .3) (new-key _ _ _ _ _ (s .pre .4) (rw (← y .key-at .ensures) (c .if3 .left))), stamped-one _ _ _ (now (s .args .seen)) _ _ (s .pre .4) (rw (← k .kind .ensures) (sym (e .selects .ensures) ∙ not-false _ (i .if1 .left))) (rw (← y .key-at .ensures) (getD-set-same (now (s .args .seen)) h _ 0 fits)) (λ j e. set-kept (now (s .args .seen)) h j _ fits e))
+    (marked-one _ _ _ _ (s .pre .3) (new-key _ _ _ _ _ (s .pre .4) (rw (← y .compared-at .ensures) (c .if3 .left))), stamped-one _ _ _ (now (s .args .seen)) _ _ (s .pre .4) (rw (← k .kind .ensures) (sym (e .selects .ensures) ∙ not-false _ (i .if1 .left))) (rw (← y .compared-at .ensures) (getD-set-same (now (s .args .seen)) h _ 0 fits)) (λ j e. set-kept (now (s .args .seen)) h j _ fits e))
 
 pub mark-place-spec : {M : Type 1} → statement M
 mark-place-spec =

@@ -5,14 +5,14 @@ use Prim.Native.Nat.{ℕ, _+_, _-_}
 use mathlib.Core.Path.{_≡_, refl, ap, _∙_}
 use lib.ListN.{length, length-replicate}
 use Rattle.rules.specs.Table.{decode}
-use Rattle.size_fields.specs.SizeStarts.{SizeStarts, Later}
+use Rattle.size_fields.specs.SizeStarts.{SizeStarts, KeptPlaces}
 use Rattle.size_fields.proofs.starts.Laws.{later-none}
 use Rattle.size_fields.proofs.starts.fill_places.Statement.{statement}
 use Rattle.size_fields.proofs.starts.fill_places.Tie as tie
 
 abbrev Inv-loop : tie.InvT-loop
 Inv-loop t last₀ places₀ p₀ e₀ last places p e =
-    SizeStarts (decode t) places × Later (decode t) last e p
+    SizeStarts (decode t) places × KeptPlaces (decode t) last e p
     × (length places ≡ length places₀) × (length last ≡ length last₀) × (length last₀ ≡ 4093)
 
 abbrev μ-loop : tie.MeasureT-loop
