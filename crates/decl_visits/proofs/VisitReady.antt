@@ -107,7 +107,7 @@ module _ (rs : List Record) (m o f : List ℕ) (a : VisitProgress) where
       }
 
   module _ (m′ o′ f′ : List ℕ) (a′ : VisitProgress) where
-    -- the slices now hold a state s′ that has grown by no more
+    -- the slices now hold a state s′ that has grown by z at most
     pub after : (x y z : ℕ) (h : VisitReady rs m o f a (x + z) y) (s′ : State) → StateHeld rs (h .places₀) (h .buffer₀) s′ m′ o′ f′ a′ → Growth (h .state) s′ z
         → length o′ ≡ length o → VisitReady rs m′ o′ f′ a′ x y
     after x y z h s′ e b l =

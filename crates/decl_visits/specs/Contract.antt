@@ -13,7 +13,6 @@ use Rattle.rules.specs.Visits.{State, resolve, walk, visit}
 use Rattle.rules.specs.DeclIdentifiers.{references, fieldReferences, faultOf}
 use Rattle.rules.specs.declared.Record.{Record}
 use Rattle.rules.specs.declared.Reference.{Reference}
-use Rattle.rules.specs.declared.Reference.the-variants.{Nowhere, Wrong, Follow}
 use Rattle.faults.specs.Notes.{noFaults, notedAll}
 use Rattle.decl_visits.specs.declared.VisitProgress.{VisitProgress}
 

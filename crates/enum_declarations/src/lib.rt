@@ -181,7 +181,8 @@ fn check_all(table: &[u8], buffer: &mut [u8]) -> Tally
     )
 }
 
-// All faults of pass 4. Without a bound on the table their number, which grows with the product of values and ranges, would not fit the total. Without an enum no array is cleared.
+// All faults of pass 4. Without a bound on the table their number, which grows with the product of values and ranges, would not fit the
+// total. Without an enum no array is cleared.
 pub fn check_enum_declarations(table: &[u8], buffer: &mut [u8]) -> Tally
     requires { ⌜ length (decode (now table)) ≤ 1600 ⌝ }
     ensures { λ r. ⌜ log r (now (buffer .exit)) ≡ logged (now (buffer .entry)) (pass4 (decode (now (table .entry)))) ⌝ }

@@ -74,7 +74,7 @@ pub const SIZES: u64 = (2u64 << ELEMENT_SIZE) - (1u64 << SIZE);
 
 pub const FIXED_FIELDS: u64 = (2u64 << FIXED_ENUM) - (1u64 << FIXED_SCALAR);
 
-pub const PAYLOADS: u64 = (2u64 << PAYLOAD) - (1u64 << BODY);
+const PAYLOADS: u64 = (2u64 << PAYLOAD) - (1u64 << BODY);
 
 pub const PAYLOADS_AND_NAMED_DECLS: u64 = PAYLOADS + NAMED_DECLS;
 

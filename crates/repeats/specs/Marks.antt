@@ -15,7 +15,7 @@ use Rattle.rules.specs.declared.Target.the-variants.{NameOrDecl, TagOrDecl, Val
 use Rattle.repeats.specs.declared.marks.Compared.{Compared}
 use Rattle.repeats.specs.declared.marks.Compared.the-variants.{FieldNames, TagNames, TagValues, Sizes, ElementSizes}
 
--- the kinds of records of which it is compared
+-- the kinds of records that have what is compared
 abbrev pub selects : Compared → ℕ → Bool
 selects FieldNames k = isNamedField k
 selects TagNames k = isTag k
@@ -30,7 +30,7 @@ comparedOf TagValues r = r .one
 comparedOf Sizes r = r .second
 comparedOf ElementSizes r = r .second
 
--- what a search for n looks for
+-- what a search for the name or value n looks for
 abbrev pub targetOf : Compared → ℕ → Target
 targetOf FieldNames n = NameOrDecl n
 targetOf TagNames n = TagOrDecl n
@@ -38,11 +38,11 @@ targetOf TagValues n = ValueOrDecl n
 targetOf Sizes n = SizeOrDecl n
 targetOf ElementSizes n = ElementSizeOrDecl n
 
--- an earlier record of the declaration that p stands in has n
+-- an earlier record of the declaration that p stands in has the name or value n
 unfoldable pub hasEarlier : List Record → Compared → ℕ → ℕ → Bool
 hasEarlier rs what n p = foundInside rs (nearest (holdsAt rs (targetOf what n)) p)
 
--- where the mark is 0 no earlier record of the declaration has the same; past the marks it counts as 1
+-- where the mark is 0 no earlier record of the declaration has the same name or value; past the marks it counts as 1
 pub record Marked (rs : List Record) (what : Compared) (marks : List ℕ) : Type 0 where
   pub clear : (p : ℕ) → getD marks p 1 ≡ 0 → hasEarlier rs what (comparedOf what (at rs p)) p ≡ false
 

@@ -35,7 +35,7 @@ pub fn again(code: u16, table: &[u8], target: Target, place: usize) -> Finding
     repeated(code, table, place, search::nearest(table, target, place))
 }
 
-// What a search for an earlier record that has the same as the one at `place` looks for.
+// What a search for an earlier record with the name or value of the one at `place` looks for.
 fn target_of(what: Compared, table: &[u8], place: usize) -> Target
     ensures { λ r. ⌜ r ≡ targetOf what (comparedOf what (at (decode (now (table .entry))) place)) ⌝ }
 {

@@ -22,10 +22,10 @@ pub enum Compared {
     ElementSizes,
 }
 
-// Keys are as long as values, names of two bytes among them.
+// What is compared is as long as a value; names have two bytes.
 const WIDE_DIVISOR: u64 = DIVISOR as u64;
 
-// Whether it is compared of records of `kind`.
+// Whether records of `kind` have what is compared.
 fn selects(what: Compared, kind: u8) -> bool
     ensures { λ r. ⌜ r ≡ selects what kind ⌝ }
 {

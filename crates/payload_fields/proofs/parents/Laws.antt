@@ -18,26 +18,26 @@ use Rattle.table.proofs.Searches.{and-false}
 use Rattle.payload_fields.specs.Parents.{NoChildWithField}
 
 module _ (rs : List Record) where
-  pub childless-start : (marks : List ℕ) → NoChildWithField rs marks 0
-  childless-start marks = record { none = λ d m c l. absurd (omega arith) }
+  pub no-child-start : (marks : List ℕ) → NoChildWithField rs marks 0
+  no-child-start marks = record { none = λ d m c l. absurd (omega arith) }
 
   module _ (marks : List ℕ) (n : ℕ) (w : NoChildWithField rs marks n) where
     -- the place n is no child with a field of a declaration whose mark is 0
-    childless-more : (marks′ : List ℕ) → ((d : ℕ) → getD marks′ (at rs d .name % 4093) 1 ≡ 0 → (getD marks (at rs d .name % 4093) 1 ≡ 0) × (childWithField rs d n ≡ false)) → NoChildWithField rs marks′ (n + 1)
-    childless-more marks′ h = record { none = λ d m c l. go d m c l (decLt c n) }
+    no-child-more : (marks′ : List ℕ) → ((d : ℕ) → getD marks′ (at rs d .name % 4093) 1 ≡ 0 → (getD marks (at rs d .name % 4093) 1 ≡ 0) × (childWithField rs d n ≡ false)) → NoChildWithField rs marks′ (n + 1)
+    no-child-more marks′ h = record { none = λ d m c l. go d m c l (decLt c n) }
       where
         go : (d : ℕ) → getD marks′ (at rs d .name % 4093) 1 ≡ 0 → (c : ℕ) → c < n + 1 → Dec (c < n) → childWithField rs d c ≡ false
         go d m c l (yes y) = w .none d (h d m .0) c y
         go d m c l (no y) = let z : c ≡ n = omega arith in ap (childWithField rs d) z ∙ h d m .1
 
-    pub childless-kind : isPacketOrStruct (at rs n .kind) ≡ false → NoChildWithField rs marks (n + 1)
-    childless-kind e = childless-more marks (λ d m. (m, rw e))
+    pub no-child-kind : isPacketOrStruct (at rs n .kind) ≡ false → NoChildWithField rs marks (n + 1)
+    no-child-kind e = no-child-more marks (λ d m. (m, rw e))
 
-    pub childless-bare : hasField rs n ≡ false → NoChildWithField rs marks (n + 1)
-    childless-bare e = childless-more marks (λ d m. (m, rw e (and-false (isPacketOrStruct (at rs n .kind) && eqb (at rs n .second) (at rs d .name)))))
+    pub no-child-bare : hasField rs n ≡ false → NoChildWithField rs marks (n + 1)
+    no-child-bare e = no-child-more marks (λ d m. (m, rw e (and-false (isPacketOrStruct (at rs n .kind) && eqb (at rs n .second) (at rs d .name)))))
 
-    pub childless-marked : (y : ℕ) → y ≡ at rs n .second → length marks ≡ 4093 → NoChildWithField rs (set marks (y % 4093) 1) (n + 1)
-    childless-marked y e l = childless-more (set marks (y % 4093) 1) (λ d m. go d m (ℕ-discrete (at rs d .name % 4093) (y % 4093)))
+    pub no-child-marked : (y : ℕ) → y ≡ at rs n .second → length marks ≡ 4093 → NoChildWithField rs (set marks (y % 4093) 1) (n + 1)
+    no-child-marked y e l = no-child-more (set marks (y % 4093) 1) (λ d m. go d m (ℕ-discrete (at rs d .name % 4093) (y % 4093)))
       where
         go : (d : ℕ) → getD (set marks (y % 4093) 1) (at rs d .name % 4093) 1 ≡ 0 → Dec (at rs d .name % 4093 ≡ y % 4093) → (getD marks (at rs d .name % 4093) 1 ≡ 0) × (childWithField rs d n ≡ false)
         go d m (yes z) =

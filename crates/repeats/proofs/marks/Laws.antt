@@ -1,4 +1,4 @@
--- Laws of the marks: what a place adds to the keys that were seen. Assumes nothing.
+-- Laws of the marks: what a place adds to the names and values that were seen. Assumes nothing.
 use Prim.Native.Nat.{ℕ, suc, _+_, _%_, _<_}
 use mathlib.Core.Path.{_≡_, refl, sym, _∙_}
 use mathlib.Core.List.{List}
@@ -18,7 +18,7 @@ use Rattle.repeats.specs.Marks.{selects, comparedOf, targetOf, hasEarlie
 use Rattle.repeats.specs.declared.marks.Compared.{Compared}
 use Rattle.repeats.specs.declared.marks.Compared.the-variants.{FieldNames, TagNames, TagValues, Sizes, ElementSizes}
 
--- a search for a key stops at a declaration and at each record that has it
+-- a search for a name or value stops at a declaration and at each record that has it
 holds-as : (what : Compared) (n : ℕ) (r : Record) → holds (targetOf what n) r ≡ (isDecl (r .kind) || (selects what (r .kind) && eqb (comparedOf what r) n))
 holds-as FieldNames n r = refl
 holds-as TagNames n r = refl
@@ -35,7 +35,7 @@ module _ (rs : List Record) (what : Compared) (p : ℕ) where
   unfolding hasEarlier nearest foundInside
   hit n e d = rw (add-one, nearest, e, foundInside, d)
 
--- a record that has a key is no declaration
+-- a record that has a name or value to compare is no declaration
 not-decl : (k : ℕ) → 7 < k → isDecl k ≡ false
 not-decl k h = rw (lt-leb k 7 h) (and-false (leb 1 k))
 
@@ -55,7 +55,7 @@ pub stamped-start : (rs : List Record) (what : Compared) (seen : List ℕ) (stam
 unfolding hasEarlier nearest foundInside
 stamped-start rs what seen stamp = record { known = λ n e. false-true e }
 
--- a declaration, a record without a key, and one with a key, at p
+-- a declaration, a record without a name or value to compare, and one with it, at p
 module _ (rs : List Record) (what : Compared) (p : ℕ) (seen : List ℕ) (stamp : ℕ) where
   pub stamped-decl : isDecl (at rs p .kind) ≡ true → Stamped rs what seen stamp (p + 1)
   stamped-decl d =
@@ -73,9 +73,9 @@ module _ (rs : List Record) (what : Compared) (p : ℕ) (seen : List ℕ) (stamp
       go n h true k = rw (← eqb-true (comparedOf what (at rs p)) n k) here
       go n h false k = kept (n % 4093) (s .known n (sym (miss rs what p n (holds-as what n (at rs p) ∙ rw (selected-not-decl what (at rs p .kind) e, e, k))) ∙ h))
 
-  -- a key that left no stamp is new
-  pub new-key : Stamped rs what seen stamp p → (getD seen (comparedOf what (at rs p) % 4093) 0 ≡ stamp → ⊥) → hasEarlier rs what (comparedOf what (at rs p)) p ≡ false
-  new-key s h = go (hasEarlier rs what (comparedOf what (at rs p)) p) refl
+  -- a name or value that left no stamp is new
+  pub new-value : Stamped rs what seen stamp p → (getD seen (comparedOf what (at rs p) % 4093) 0 ≡ stamp → ⊥) → hasEarlier rs what (comparedOf what (at rs p)) p ≡ false
+  new-value s h = go (hasEarlier rs what (comparedOf what (at rs p)) p) refl
     where
       go : (b : Bool) → hasEarlier rs what (comparedOf what (at rs p)) p ≡ b → hasEarlier rs what (comparedOf what (at rs p)) p ≡ false
       go true e = absurd (h (s .known (comparedOf what (at rs p)) e))

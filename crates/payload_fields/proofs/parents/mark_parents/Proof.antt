@@ -6,7 +6,7 @@ use mathlib.Core.Path.{_≡_, refl, _∙_}
 use lib.ListN.{length}
 use Rattle.rules.specs.Table.{decode}
 use Rattle.payload_fields.specs.Parents.{NoChildWithField}
-use Rattle.payload_fields.proofs.parents.Laws.{childless-start}
+use Rattle.payload_fields.proofs.parents.Laws.{no-child-start}
 use Rattle.payload_fields.proofs.parents.mark_parents.Statement.{statement}
 use Rattle.payload_fields.proofs.parents.mark_parents.Tie as tie
 
@@ -17,7 +17,7 @@ abbrev μ-loop : tie.MeasureT-loop
 μ-loop t parents₀ n c₀ parents c = n - c
 
 loop-holds : tie.Need-loop-holds Inv-loop μ-loop
-loop-holds c = (childless-start _ _, search needs, c .count .ensures, refl)
+loop-holds c = (no-child-start _ _, search needs, c .count .ensures, refl)
 
 mark-parent-requires : tie.Need-mark-parent-requires Inv-loop μ-loop
 mark-parent-requires c κs =

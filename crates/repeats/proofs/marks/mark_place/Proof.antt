@@ -6,7 +6,7 @@ use mathlib.Core.Path.{sym, _∙_}
 use Prim.Native.Nat.{ℕ, _%_, _<_}
 use lib.ListN.{length}
 use lib.Seq.{getD-set-same}
-use Rattle.repeats.proofs.marks.Laws.{stamped-decl, stamped-other, stamped-one, new-key, set-kept, marked-one}
+use Rattle.repeats.proofs.marks.Laws.{stamped-decl, stamped-other, stamped-one, new-value, set-kept, marked-one}
 use Rattle.repeats.proofs.marks.mark_place.Statement.{statement}
 use Rattle.repeats.proofs.marks.mark_place.Tie as tie
 
@@ -50,7 +50,7 @@ returns-4 c =
     let s = k .before .before .before .before in
     let h : ℕ = y .compared-at .result % 4093 in
     let fits : h < length (now (s .args .seen)) = search needs in
-    (marked-one _ _ _ _ (s .pre .3) (new-key _ _ _ _ _ (s .pre .4) (rw (← y .compared-at .ensures) (c .if3 .left))), stamped-one _ _ _ (now (s .args .seen)) _ _ (s .pre .4) (rw (← k .kind .ensures) (sym (e .selects .ensures) ∙ not-false _ (i .if1 .left))) (rw (← y .compared-at .ensures) (getD-set-same (now (s .args .seen)) h _ 0 fits)) (λ j e. set-kept (now (s .args .seen)) h j _ fits e))
+    (marked-one _ _ _ _ (s .pre .3) (new-value _ _ _ _ _ (s .pre .4) (rw (← y .compared-at .ensures) (c .if3 .left))), stamped-one _ _ _ (now (s .args .seen)) _ _ (s .pre .4) (rw (← k .kind .ensures) (sym (e .selects .ensures) ∙ not-false _ (i .if1 .left))) (rw (← y .compared-at .ensures) (getD-set-same (now (s .args .seen)) h _ 0 fits)) (λ j e. set-kept (now (s .args .seen)) h j _ fits e))
 
 pub mark-place-spec : {M : Type 1} → statement M
 mark-place-spec =
