@@ -1,7 +1,4 @@
 // Replays stored tables through parts of the analyzer: a line for each case says what the part answered.
-mod buffers;
-mod output;
-
 use pass_checks::Checked;
 use replay_cases::Next;
 use rules::limits::{MOST_RECORDS, RECORD_LENGTH, TABLE_LENGTH};
@@ -10,33 +7,33 @@ use rules::{Layout, Reply, Tally};
 // The row of the layout's reply, 0 for a sound layout, and the place.
 fn print_layout(layout: Layout) {
     match layout {
-        Layout::Uneven => output::print(1, b'\n'),
-        Layout::TooLong => output::print(2, b'\n'),
+        Layout::Uneven => replay_cases::print(1, b'\n'),
+        Layout::TooLong => replay_cases::print(2, b'\n'),
         Layout::Malformed(place) => {
-            output::print(3, b' ');
-            output::print(place as u64, b'\n');
+            replay_cases::print(3, b' ');
+            replay_cases::print(place as u64, b'\n');
         }
-        Layout::Sound => output::print(0, b'\n'),
+        Layout::Sound => replay_cases::print(0, b'\n'),
     }
 }
 
 // The faults kept, the faults found and the digest of the fault buffer.
 fn print_faults(tally: Tally, faults: &[u8], end: u8) {
-    output::print(tally.kept as u64, b' ');
-    output::print(tally.total as u64, b' ');
-    output::print(output::digest(faults), end);
+    replay_cases::print(tally.kept as u64, b' ');
+    replay_cases::print(tally.total as u64, b' ');
+    replay_cases::print(replay_cases::digest(faults), end);
 }
 
 fn print_scope(input: &[u8], faults: &mut [u8]) {
-    buffers::fill(faults);
-    let tally = scope::scope_new(input, faults);
+    replay_cases::fill(faults);
+    let tally = pass_checks::scope_new(input, faults);
     print_faults(tally, faults, b'\n');
 }
 
 // The faults, the number of listed records and the digest of the buffer that holds them.
 fn print_order(input: &[u8], faults: &mut [u8], out: &mut [u8]) {
-    buffers::fill(faults);
-    buffers::fill(out);
+    replay_cases::fill(faults);
+    replay_cases::fill(out);
     if MOST_RECORDS < table::count(input) {
         return;
     }
@@ -46,8 +43,8 @@ fn print_order(input: &[u8], faults: &mut [u8], out: &mut [u8]) {
     let outcome = decl_order::check_decl_identifiers(input, faults, out);
     let tally = outcome.tally;
     print_faults(tally, faults, b' ');
-    output::print(outcome.records as u64, b' ');
-    output::print(output::digest(out), b'\n');
+    replay_cases::print(outcome.records as u64, b' ');
+    replay_cases::print(replay_cases::digest(out), b'\n');
 }
 
 // How many of the faults found a buffer of this length keeps.
@@ -66,7 +63,7 @@ fn print_later(listed: &[u8], faults: &mut [u8]) {
     }
     match pass_checks::run_later(listed, faults) {
         Checked::Faulty(pass, total) => {
-            output::print(pass as u64, b' ');
+            replay_cases::print(pass as u64, b' ');
             let tally = Tally {
                 kept: kept_faults(total, faults.len()),
                 total,
@@ -74,7 +71,7 @@ fn print_later(listed: &[u8], faults: &mut [u8]) {
             print_faults(tally, faults, b'\n');
         }
         Checked::Clean => {
-            output::print(0, b' ');
+            replay_cases::print(0, b' ');
             print_faults(faults::no_faults(), faults, b'\n');
         }
     }
@@ -82,7 +79,7 @@ fn print_later(listed: &[u8], faults: &mut [u8]) {
 
 // Passes 3 to 9 on the table that pass 2 lists.
 fn print_checks(input: &[u8], faults: &mut [u8], out: &mut [u8]) {
-    buffers::fill(faults);
+    replay_cases::fill(faults);
     if MOST_RECORDS < table::count(input) {
         return;
     }
@@ -101,34 +98,34 @@ fn print_checks(input: &[u8], faults: &mut [u8], out: &mut [u8]) {
 // The row of the reply and its values.
 fn print_reply(reply: Reply) {
     match reply {
-        Reply::Uneven => output::print(1, b' '),
-        Reply::TooLong => output::print(2, b' '),
+        Reply::Uneven => replay_cases::print(1, b' '),
+        Reply::TooLong => replay_cases::print(2, b' '),
         Reply::Malformed(place) => print_row(3, place as u64),
         Reply::Faulty(pass, total) => {
             print_row(4, pass as u64);
-            output::print(total as u64, b' ');
+            replay_cases::print(total as u64, b' ');
         }
-        Reply::Swollen => output::print(5, b' '),
+        Reply::Swollen => replay_cases::print(5, b' '),
         Reply::Unfit(key) => print_row(6, key.0 as u64),
         Reply::Loose(key) => print_row(7, key.0 as u64),
-        Reply::Overlisted => output::print(8, b' '),
+        Reply::Overlisted => replay_cases::print(8, b' '),
         Reply::NoRoom(needed) => print_row(9, needed as u64),
         Reply::Accepted(records) => print_row(10, records as u64),
     }
 }
 
 fn print_row(row: u64, value: u64) {
-    output::print(row, b' ');
-    output::print(value, b' ');
+    replay_cases::print(row, b' ');
+    replay_cases::print(value, b' ');
 }
 
 // The whole analyzer: the reply and the digests of both buffers.
 fn print_whole(input: &[u8], table: &mut [u8], faults: &mut [u8]) {
-    buffers::fill(table);
-    buffers::fill(faults);
+    replay_cases::fill(table);
+    replay_cases::fill(faults);
     print_reply(analyzer::analyze(input, table, faults));
-    output::print(output::digest(table), b' ');
-    output::print(output::digest(faults), b'\n');
+    replay_cases::print(replay_cases::digest(table), b' ');
+    replay_cases::print(replay_cases::digest(faults), b'\n');
 }
 
 fn print_part(part: u32, input: &[u8], faults: &mut [u8], out: &mut [u8]) {
@@ -137,7 +134,7 @@ fn print_part(part: u32, input: &[u8], faults: &mut [u8], out: &mut [u8]) {
         2 => print_scope(input, faults),
         3 => print_order(input, faults, out),
         4 => print_checks(input, faults, out),
-        _ => output::print(0, b'?'),
+        _ => replay_cases::print(0, b'?'),
     }
 }
 
@@ -176,8 +173,8 @@ fn run(input: &mut [u8], faults: &mut [u8], out: &mut [u8]) {
 }
 
 fn main() {
-    let mut input = buffers::input_buffer();
-    let mut faults = buffers::buffer();
-    let mut out = buffers::buffer();
+    let mut input = replay_cases::buffers::input_buffer();
+    let mut faults = replay_cases::buffers::buffer();
+    let mut out = replay_cases::buffers::buffer();
     run(&mut input, &mut faults, &mut out);
 }

@@ -1,10 +1,12 @@
-// Stored cases, read from standard input.
+// Stored cases, read from standard input, and what is printed of them.
 // A case is four numbers of four bytes (the part of the analyzer that it is for, and the lengths of the input, of the table buffer and
 // of the fault buffer) and the input.
-ghost use Rattle.std.specs.Prelude.{length};
+pub mod buffers;
+
+ghost use Rattle.std.specs.Prelude.{◌<◌, length};
 ghost use Rattle.replay_cases.specs.Cases.{CaseFits};
 
-use libc::STDIN_FILENO;
+use libc::{STDIN_FILENO, STDOUT_FILENO};
 use rules::limits::TABLE_LENGTH;
 
 // What a case is for, and its lengths.
@@ -49,4 +51,37 @@ pub fn next_case(input: &mut [u8]) -> Next
         table,
         faults,
     })
+}
+
+fn wide(byte: u8) -> u64
+    ensures { result < 256 }
+{
+    byte as u64
+}
+
+// A digest of bytes, as the oracle makes it.
+pub fn digest(bytes: &[u8]) -> u64 {
+    let mut sum: u64 = 7;
+    let mut i: usize = 0;
+    while i < bytes.len() {
+        sum = (sum * 31 + wide(bytes[i])) % 0x1_0000_0000;
+        i += 1;
+    }
+    sum
+}
+
+// Fills a buffer with 7, so that a byte written too many shows.
+pub fn fill(buffer: &mut [u8]) {
+    let mut i: usize = 0;
+    while i < buffer.len() {
+        buffer[i] = 7;
+        i += 1;
+    }
+}
+
+// A number and a byte behind it.
+pub fn print(number: u64, end: u8) {
+    io::print_decimal(STDOUT_FILENO, number);
+    let text = [end];
+    io::write_all(STDOUT_FILENO, &text);
 }

@@ -1,4 +1,4 @@
--- A `Walker` as the walks have it: its type and laws, what it owns, and how it is taken apart for a function on the slice and the numbers.
+-- A `Walker` as the walks have it: its type and laws, what it owns, and how it is taken apart for a function on the slice and the number.
 -- Assumes nothing.
 use mathlib.Core.Path.{◌≡◌, refl}
 use Prim.Native.Nat.{ℕ, ◌<◌, ◌^◌}
@@ -15,7 +15,7 @@ use types.Kit.{‵, raw, ◌⊛◌, given, ⋆, ◌$◌, ◌∵◌, !, qed, move
 use denote.RattleType.{RattleType, owns}
 use denote.Laws.{Is}
 use denote.Plain.{uint_Makes}
-use denote.Builtin.{u8, u64, usize}
+use denote.Builtin.{u8, usize}
 use denote.Ref.{Bor}
 use denote.Signature.{named_lft}
 use denote.Slice.{slice_val, ShrSlice}
@@ -37,22 +37,12 @@ D κ = T.the_type (named_lft 1 0 tt (κ, tt))
 abbrev pub L : (κ : Lft) → LL.Laws (D κ)
 L κ = T'.the_laws (named_lft 1 0 tt (κ, tt))
 
--- the fields' values
+-- the fields' values, and their machine values
 abbrev pub fields : Walker → Bor (List ℕ) × (ℕ × Unit {0})
 fields d = (d.table, (d.place, tt))
 
--- a walker and kinds as `seek` is passed them, and as `next_place` is: the values, and the machine values
-abbrev pub held : Walker → ℕ → Walker × (ℕ × Unit {0})
-held d k = (d, (k, tt))
-
-abbrev pub held-as : Val → ℕ → List Val × (List Val × Unit {0})
-held-as u k = (u ∷ [], (vint w64 k ∷ [], tt))
-
-abbrev pub passed : Walker → ℕ → Bor (List ℕ) × (ℕ × (ℕ × Unit {0}))
-passed d k = (d.table, (k, (d.place, tt)))
-
-abbrev pub passed-as : Walker → ℕ → List Val × (List Val × (List Val × Unit {0}))
-passed-as d k = (slice_val d.table.ref_ptr (length d.table.now) ∷ [], (vint w64 k ∷ [], (vint w64 d.place ∷ [], tt)))
+abbrev pub passed : Walker → List Val × (List Val × Unit {0})
+passed d = (slice_val d.table.ref_ptr (length d.table.now) ∷ [], (vint w64 d.place ∷ [], tt))
 
 abbrev pub Own : Lft → Walker → Fml
 Own κ d = (B (κ, tt)).own_val d (T'.lowered d ∷ [])
@@ -62,36 +52,32 @@ module _ {M : Type 1} {𝓤 : Ura M} (𝓛 : Logic 𝓤) (κ : Lft) (q : Share) 
   pub twice : ent 𝓤 (sem 𝓛 (Own κ d)) (⋆ 𝓛 (‵ (Own κ d) ∷ ‵ (Own κ d) ∷ []))
   twice = (LL.copy (D κ) (T'.the_copy (named_lft 1 0 tt (κ, tt))) 𝓛).twice d (T'.lowered d ∷ [])
 
-  module _ (k : ℕ) (ok : k < 2 ^ 64) where
-    -- what `next_place` asks
-    abbrev Given-to : SProp 𝓤
-    Given-to = ⋆ 𝓛 ((‵ (flft κ q) ⊛ ‵ ftrue) ∷ ‵ (owns (ShrSlice (named 0) κ u8 ∷ u64 ∷ usize ∷ []) (passed d k) (passed-as d k)) ∷ [])
+  -- what a function on the slice and the number asks
+  abbrev Given-to : SProp 𝓤
+  Given-to = ⋆ 𝓛 ((‵ (flft κ q) ⊛ ‵ ftrue) ∷ ‵ (owns (ShrSlice (named 0) κ u8 ∷ usize ∷ []) (fields d) (passed d)) ∷ [])
 
-    asked : ent 𝓤 Given-to (sep 𝓤 Given-to (emp 𝓤))
-    asked =
-        qed 𝓛 ((‵ (flft κ q) ⊛ ‵ ftrue) ∷ ‵ (owns (ShrSlice (named 0) κ u8 ∷ u64 ∷ usize ∷ []) (passed d k) (passed-as d k)) ∷ []) ∵
-        join ! $ frame ! $ done !
+  asked : ent 𝓤 Given-to (sep 𝓤 Given-to (emp 𝓤))
+  asked =
+      qed 𝓛 ((‵ (flft κ q) ⊛ ‵ ftrue) ∷ ‵ (owns (ShrSlice (named 0) κ u8 ∷ usize ∷ []) (fields d) (passed d)) ∷ []) ∵ join ! $ frame ! $ done !
 
-    -- one copy is kept, and of the other the slice's part goes to the callee, beside the lifetime's token
-    pub apart : d.place < 2 ^ 64
-        → ent 𝓤 (⋆ 𝓛 ((‵ (flft κ q) ⊛ ‵ ftrue) ∷ ‵ (owns (B (κ, tt) ∷ u64 ∷ []) (held d k) (held-as (T'.lowered d) k)) ∷ []))
-        (sep 𝓤 (sep 𝓤 Given-to (emp 𝓤)) (sem 𝓛 (Own κ d)))
-    apart fits =
-        qed 𝓛 ((‵ (flft κ q) ⊛ ‵ ftrue) ∷ ‵ (owns (B (κ, tt) ∷ u64 ∷ []) (held d k) (held-as (T'.lowered d) k)) ∷ []) ∵
-        move ! (1 ∷ []) $ fsplit ! $ move ! (1 ∷ []) $ drop ! $ use1 𝓛 (‵ (Own κ d) ⊛ ‵ (Own κ d)) twice $ split ! $
-        use1 𝓛 (given (T'.lowered d ∷ [] ≡ T'.lowered d ∷ []) (‵ (all_own (D κ).parts (L κ) (fields d))))
-        (own_open 𝓛 (D κ) (L κ) (fields d) (T'.lowered d)) $ learn ! (λ _.
-        use1 𝓛 (‵ (field_own (D κ).parts (L κ) 0 d.table) ⊛ ‵ (rest (D κ).parts (L κ) 0 (fields d)))
-        (own_out 𝓛 (D κ).parts (L κ) 0 (fields d)) $ split ! $
-        -- [what table owns; what place owns; what the struct owns; the token]
-        move ! (1 ∷ []) $ drop ! $ nothing ! $ owned ! usize (Is usize) (uint_Makes 𝓛 w64) d.place _ (refl, fits) $ fjoin ! $
-        owned ! u64 (Is u64) (uint_Makes 𝓛 w64) k _ (refl, ok) $ fjoin ! $
-        move ! (1 ∷ 0 ∷ []) $ fjoin ! $ move ! (2 ∷ 0 ∷ []) $ use2 𝓛 (raw (sep 𝓤 Given-to (emp 𝓤))) asked $ frame ! $ done !)
+  -- one copy is kept, and of the other the slice's part goes to the callee, beside the lifetime's token
+  pub apart : d.place < 2 ^ 64
+      → ent 𝓤 (⋆ 𝓛 ((‵ (flft κ q) ⊛ ‵ ftrue) ∷ ‵ (owns (B (κ, tt) ∷ []) (d, tt) (T'.lowered d ∷ [], tt)) ∷ []))
+      (sep 𝓤 (sep 𝓤 Given-to (emp 𝓤)) (sem 𝓛 (Own κ d)))
+  apart fits =
+      qed 𝓛 ((‵ (flft κ q) ⊛ ‵ ftrue) ∷ ‵ (owns (B (κ, tt) ∷ []) (d, tt) (T'.lowered d ∷ [], tt)) ∷ []) ∵
+      move ! (1 ∷ []) $ fsplit ! $ move ! (1 ∷ []) $ drop ! $ use1 𝓛 (‵ (Own κ d) ⊛ ‵ (Own κ d)) twice $ split ! $
+      use1 𝓛 (given (T'.lowered d ∷ [] ≡ T'.lowered d ∷ []) (‵ (all_own (D κ).parts (L κ) (fields d))))
+      (own_open 𝓛 (D κ) (L κ) (fields d) (T'.lowered d)) $ learn ! (λ _.
+      use1 𝓛 (‵ (field_own (D κ).parts (L κ) 0 d.table) ⊛ ‵ (rest (D κ).parts (L κ) 0 (fields d)))
+      (own_out 𝓛 (D κ).parts (L κ) 0 (fields d)) $ split ! $
+      -- [what table owns; what place owns; what the struct owns; the token]
+      move ! (1 ∷ []) $ drop ! $ nothing ! $ owned ! usize (Is usize) (uint_Makes 𝓛 w64) d.place _ (refl, fits) $ fjoin ! $
+      move ! (1 ∷ 0 ∷ []) $ fjoin ! $ move ! (2 ∷ 0 ∷ []) $ use2 𝓛 (raw (sep 𝓤 Given-to (emp 𝓤))) asked $ frame ! $ done !)
 
-    -- a struct with the machine value u goes to `seek`
-    pub handed : (u : Val) → ent 𝓤 (⋆ 𝓛 (‵ ((B (κ, tt)).own_val d (u ∷ [])) ∷ (‵ (flft κ q) ⊛ ‵ ftrue) ∷ []))
-        (sep 𝓤 (⋆ 𝓛 ((‵ (flft κ q) ⊛ ‵ ftrue) ∷ ‵ (owns (B (κ, tt) ∷ u64 ∷ []) (held d k) (held-as u k)) ∷ [])) (emp 𝓤))
-    handed u =
-        qed 𝓛 (‵ ((B (κ, tt)).own_val d (u ∷ [])) ∷ (‵ (flft κ q) ⊛ ‵ ftrue) ∷ []) ∵
-        nothing ! $ owned ! u64 (Is u64) (uint_Makes 𝓛 w64) k _ (refl, ok) $ fjoin ! $ move ! (1 ∷ 0 ∷ []) $ fjoin ! $
-        move ! (1 ∷ 0 ∷ []) $ join ! $ frame ! $ done !
+  -- a struct with the machine value u goes to a function on a `Walker`
+  pub handed : (u : Val) → ent 𝓤 (⋆ 𝓛 (‵ ((B (κ, tt)).own_val d (u ∷ [])) ∷ (‵ (flft κ q) ⊛ ‵ ftrue) ∷ []))
+      (sep 𝓤 (⋆ 𝓛 ((‵ (flft κ q) ⊛ ‵ ftrue) ∷ ‵ (owns (B (κ, tt) ∷ []) (d, tt) (u ∷ [], tt)) ∷ [])) (emp 𝓤))
+  handed u =
+      qed 𝓛 (‵ ((B (κ, tt)).own_val d (u ∷ [])) ∷ (‵ (flft κ q) ⊛ ‵ ftrue) ∷ []) ∵
+      nothing ! $ move ! (1 ∷ 0 ∷ []) $ fjoin ! $ move ! (1 ∷ 0 ∷ []) $ join ! $ frame ! $ done !

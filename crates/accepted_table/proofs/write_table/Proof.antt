@@ -16,7 +16,7 @@ few c =
     let s = i.before.before.before.before.before in
     let x =
     inlined-few s.args.listed.now (λ k. omega (arith, i.before.before.before.before.shared-slice-known.given k)) s.args.expanded.now
-    i.inline-groups.ensures _ c.before.n.given.1 in
+    i.inline-groups.ensures.0.0 i.inline-groups.ensures.0.1 _ c.before.n.given.1 in
     (x.0, x.2)
 
 mul-end : tie.Need-overflow-mul-end
@@ -33,20 +33,20 @@ desugar-flags-requires c κs =
     part-few c.before.before.before.before.before.before.before.inline-groups.new.1.0 (slice-reshare-prefix-desugar-flags c.before.before) (omega (arith, (few c.before.before).0))
 
 returns : tie.Need-returns
-returns c = told-swollen _ _ _ c.before.before.before.before.inline-groups.ensures _ c.enum_told.given.1
+returns c = told-swollen _ _ c.before.before.before.before.inline-groups.ensures.0.0 _ c.enum_told.given.1
 
 returns-2 : tie.Need-returns-2
-returns-2 c = told-short _ _ _ c.before.before.before.before.inline-groups.ensures _ c.enum-told2.given.1
+returns-2 c = told-short _ _ c.before.before.before.before.inline-groups.ensures.0.0 _ c.enum-told2.given.1
 
 returns-3 : tie.Need-returns-3
-returns-3 c = told-unfit _ _ _ c.before.before.before.before.before.inline-groups.ensures _ _ c.before.key.given.1
+returns-3 c = told-unfit _ _ c.before.before.before.before.before.inline-groups.ensures.0.0 _ _ c.before.key.given.1
 
 returns-4 : tie.Need-returns-4
 returns-4 c =
     let i = c.before.before.before.before.before.before.before.before.before.before in
     let s = i.before.before.before.before.before in
     told-inlined s.args.listed.now (λ k. omega (arith, i.before.before.before.before.shared-slice-known.given k)) s.args.expanded.now
-    i.inline-groups.ensures _ c.before.before.before.before.before.before.n.given.1
+    i.inline-groups.ensures.0.0 i.inline-groups.ensures.0.1 _ c.before.before.before.before.before.before.n.given.1
     s.args.table.now _ c.before.before.desugar-flags.ensures
 
 pub write-table-spec : {M : Type 1} → statement M

@@ -3,18 +3,17 @@ use borrow.Author.Rules.{rules}
 use native.Mathlib.Omega.{arith}
 use Prim.Native.Nat.{◌-◌, ◌≤◌}
 use mathlib.Core.Path.{◌≡◌, refl}
-use mathlib.Core.List.{◌++◌}
-use lib.ListN.{length, take, drop, length-set}
+use lib.ListN.{length, take, length-set}
 use Rattle.rules.specs.Table.{decode, at}
 use Rattle.rules.specs.EnumDeclarations.{lesser, greater}
 use Rattle.enum_bounds.specs.Bounds.{lows_of, highs_of}
-use Rattle.enum_bounds.proofs.Written.{written-more, written_all}
+use Rattle.enum_bounds.proofs.Counts.{bounds-more}
 use Rattle.enum_bounds.proofs.fill.Statement.{statement}
 use Rattle.enum_bounds.proofs.fill.Tie as tie
 
 abbrev invariant-loop : tie.invariant-loop
 invariant-loop t s m lows₀ highs₀ j₀ lows highs j =
-    (lows ≡ lows_of (decode t) (take j s) ++ drop j lows₀) × (highs ≡ highs_of (decode t) (take j s) ++ drop j highs₀)
+    (take j lows ≡ lows_of (decode t) (take j s)) × (take j highs ≡ highs_of (decode t) (take j s))
     × (j ≤ m) × (length lows ≡ length lows₀) × (length highs ≡ length highs₀)
 
 abbrev decreases-loop : tie.decreases-loop
@@ -35,8 +34,8 @@ loop-again c =
     let l = a.before.before.before in
     let s = l.before.before.before.before.before in
     let rs = decode s.args.table.now in (
-      rw (e.lesser.ensures, a.at.ensures) (written-more (λ q. lesser (at rs q)) s.args.lows.now _ _ l.loop.j l.loop.invariant.0 (search rules) (search rules)),
-      rw (c.greater.ensures, a.at.ensures) (written-more (λ q. greater (at rs q)) s.args.highs.now _ _ l.loop.j l.loop.invariant.1 (search rules) (search rules)),
+      rw (e.lesser.ensures, a.at.ensures) (bounds-more (λ q. lesser (at rs q)) _ _ l.loop.j (search rules) (search rules) l.loop.invariant.0),
+      rw (c.greater.ensures, a.at.ensures) (bounds-more (λ q. greater (at rs q)) _ _ l.loop.j (search rules) (search rules) l.loop.invariant.1),
       search rules,
       simp length-set l.loop.invariant.3,
       simp length-set l.loop.invariant.4,
@@ -47,7 +46,7 @@ returns c =
     let l = c.before in
     let s = l.before.before.before.before.before in
     let e : l.loop.j ≡ s.args.count = omega (arith, l.loop.invariant.2, c.loop-test.false) in
-    (written_all _ _ _ _ _ l.loop.invariant.0 _ e s.requires.0, written_all _ _ _ _ _ l.loop.invariant.1 _ e s.requires.0)
+    (rw e at l.loop.invariant.0, rw e at l.loop.invariant.1)
 
 pub fill_spec : {M : Type 1} → statement M
 fill_spec =

@@ -12,7 +12,7 @@ use Rattle.rules.specs.EnumDeclarations.{tag_faults, tags_faults}
 use Rattle.faults.specs.Notes.{noted_all}
 use Rattle.faults.proofs.Laws.{noted-start, noted-place, noted-end, each-total}
 use Rattle.enum_tags.specs.Before.{range_before}
-use Rattle.enum_tags.proofs.Laws.{tag-few, before-range}
+use Rattle.enum_tags.proofs.Laws.{tag-few}
 use Rattle.enum_declarations.proofs.note_tags.Statement.{statement}
 use Rattle.enum_declarations.proofs.note_tags.Tie as tie
 
@@ -44,7 +44,7 @@ loop-again c =
     let s = l.before.before.before.before.before.before.before in
     let next = ap (λ (p : ℕ). range_before (decode s.args.table.now) p) (sym (add_assoc (s.args.decl + 1) l.loop.i 1)) in
     let noted = noted-place _ l.loop.i _ _ l.loop.invariant.0 refl n.note-tag.ensures in
-    (noted, search rules, search rules, next ∙ before-range _ _ _ _ l.loop.invariant.3 c.after-range.ensures)
+    (noted, search rules, search rules, next ∙ c.after-range.ensures)
 
 returns : tie.Need-returns invariant-loop decreases-loop
 unfolding tags_faults

@@ -7,13 +7,13 @@ use Rattle.flag_sizes.proofs.count_condition.Statement.{statement}
 use Rattle.flag_sizes.proofs.count_condition.Tie as tie
 
 returns : tie.Need-returns
-returns c = let k = c.before in sym (ap length (condition-there _ _ (sym k.kind.ensures ∙ c.if1.true)))
+returns c = let k = c.before in sym (ap length (condition-there _ _ (sym k.kind-after.ensures ∙ c.if1.true)))
 
 returns-2 : tie.Need-returns-2
-returns-2 c = let k = c.before in sym (ap length (condition-none _ _ (rw k.kind.ensures at c.if1.false)))
+returns-2 c = let k = c.before in sym (ap length (condition-none _ _ (rw k.kind-after.ensures at c.if1.false)))
 
 pub count-condition-spec : {M : Type 1} → statement M
 count-condition-spec =
     tie.close
     (tie.spec
-    (λ c. search rules) (λ c κs. search rules) returns returns-2)
+    (λ c κs. search rules) returns returns-2)

@@ -25,13 +25,13 @@ loop-again : tie.Need-loop-preserved invariant-loop decreases-loop
 loop-again c =
     let k = c.before in
     let l = k.before.before in
-    (push-one l.loop.invariant.0 (omega arith) (sym k.kind.ensures ∙ c.if1.true), l.loop.invariant.1)
+    (push-one l.loop.invariant.0 (omega arith) (sym k.kind.ensures ∙ c.if1.true) (fits c), l.loop.invariant.1)
 
 returns : tie.Need-returns invariant-loop decreases-loop
 returns c =
     let k = c.before.before in
     let l = k.before.before in
-    push-stop l.loop.invariant.0 l.before.before.before.before.requires.1 (omega arith) (λ e. c.before.if1.false (k.kind.ensures ∙ e)) (λ e. c.if2.true (k.kind.ensures ∙ e))
+    push-stop l.loop.invariant.0 (omega arith) (λ e. c.before.if1.false (k.kind.ensures ∙ e)) (λ e. c.if2.true (k.kind.ensures ∙ e))
 
 loop-again-2 : tie.Need-loop-preserved-2 invariant-loop decreases-loop
 loop-again-2 c =
@@ -46,4 +46,4 @@ push-constraints-spec =
     invariant-loop decreases-loop (λ c κs. search rules) (λ c. (push-start _ _ _ _, c.count.ensures)) (λ c κs. search rules) (λ c. search rules)
     (λ c. search rules) (λ c. search rules) fits (λ c. search rules) (λ c. search rules) loop-again
     (λ c. c.before.before.before.before.loop.invariant.0.long) returns (λ c. search rules) loop-again-2
-    (λ c. c.before.loop.invariant.0.long) (λ c. push-end c.before.loop.invariant.0 c.before.before.before.before.before.requires.1 (omega arith)))
+    (λ c. c.before.loop.invariant.0.long) (λ c. push-end c.before.loop.invariant.0 (omega arith)))

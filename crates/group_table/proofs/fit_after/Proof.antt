@@ -14,7 +14,7 @@ returns-2 c = rw (c.before.enum_told.given.1, c.if1.true)
 
 returns-3 : tie.Need-returns-3
 unfolding fit_after
-returns-3 c = let i = c.before in rw (i.before.enum_told.given.1, i.if1.false, c.field-key.ensures)
+returns-3 c = rw (c.before.enum_told.given.1, c.if1.false)
 
 pub fit-after-spec : {M : Type 1} → statement M
-fit-after-spec = tie.close (tie.spec (λ c. search rules) (λ c. search rules) (λ c κs. search rules) returns returns-2 returns-3)
+fit-after-spec = tie.close (tie.spec (λ c. search rules) (λ c. search rules) returns returns-2 returns-3)

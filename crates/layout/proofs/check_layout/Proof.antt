@@ -29,7 +29,7 @@ unfolding layout
 returns c =
     let t = c.before.before.args.table.now in
     let e : Uneven ≡ layout t = rw (ne_eqb (length t % 40) 0 (λ z. c.if1.true (omega (arith, z)))) in
-    ap layout_numbered e
+    (e, ap layout_numbered e)
 
 returns-2 : tie.Need-returns-2 invariant-loop decreases-loop
 unfolding layout
@@ -39,7 +39,7 @@ returns-2 c =
     let even = eq-eqb (length t % 40) 0 (omega (arith, n.before.if1.false)) in
     let long = lt-ltb 1600 n.count.result (omega (arith, c.if2.true)) in
     let e : TooLong ≡ layout t = rw (even, ← n.count.ensures, long) in
-    ap layout_numbered e
+    (e, ap layout_numbered e)
 
 loop-holds : tie.Need-loop-init invariant-loop decreases-loop
 loop-holds c = (refl, around-start _)
@@ -59,7 +59,7 @@ returns-3 c =
     let fits = le-ltb 1600 n.count.result (omega (arith, l.before.if2.false)) in
     let unsound = ap not (sym s.sound-at.ensures) ∙ c.if3.true in
     let e : Malformed l.loop.p ≡ layout t = rw (even, ← n.count.ensures, fits, ← up-hit _ _ _ l.loop.p l.loop.invariant.0 s.before.loop-test.true unsound ∙ ap (first _ 0) (sub-zero _)) in
-    ap layout_numbered e
+    (e, ap layout_numbered e)
 
 loop-again : tie.Need-loop-preserved invariant-loop decreases-loop
 loop-again c =
@@ -78,7 +78,7 @@ returns-4 c =
     let even = eq-eqb (length t % 40) 0 (omega (arith, n.before.if1.false)) in
     let fits = le-ltb 1600 n.count.result (omega (arith, l.before.if2.false)) in
     let e : Sound ≡ layout t = rw (even, ← n.count.ensures, fits, ← up-end _ _ _ l.loop.p l.loop.invariant.0 c.loop-test.false ∙ ap (first _ 0) (sub-zero _)) in
-    ap layout_numbered e
+    (e, ap layout_numbered e)
 
 pub check-layout-spec : {M : Type 1} → statement M
 check-layout-spec =

@@ -28,7 +28,7 @@ returns c =
     let l = r.before.before in
     let o = l.before in
     let s = o.before.before.before in
-    let z = faulty (decode s.args.table.now) _ o.loop.pass _ _ r.run.ensures c.if1.true in
+    let z = faulty (decode s.args.table.now) _ o.loop.pass o.loop.invariant.2 _ _ r.run.ensures c.if1.true in
     rw (← up-hit _ 3 10 o.loop.pass o.loop.invariant.1 (omega (arith, l.loop-test.true)) z.0, ← o.loop.invariant.0) z.1
 
 loop-again : tie.Need-loop-preserved invariant-loop decreases-loop
@@ -37,7 +37,7 @@ loop-again c =
     let l = r.before.before in
     let o = l.before in
     let s = o.before.before.before in
-    let z = clean (decode s.args.table.now) _ o.loop.pass _ _ r.run.ensures (search rules) in
+    let z = clean (decode s.args.table.now) _ o.loop.pass o.loop.invariant.2 _ _ r.run.ensures (search rules) in
     (z.0 ∙ o.loop.invariant.0, up-miss _ 3 10 o.loop.pass o.loop.invariant.1 (omega (arith, l.loop-test.true)) z.1, search rules, search rules)
 
 returns-2 : tie.Need-returns-2 invariant-loop decreases-loop

@@ -1,23 +1,21 @@
 -- `declarations::starts::set_start` meets its contract. Assumes nothing.
 use borrow.Author.Rules.{rules}
 use mathlib.Core.Path.{sym, ◌∙◌}
-use Rattle.declarations.specs.Starts.{with_start}
+use Rattle.declarations.proofs.starts.Laws.{start_none, start-here}
 use Rattle.declarations.proofs.starts.set_start.Statement.{statement}
 use Rattle.declarations.proofs.starts.set_start.Tie as tie
 
 returns : tie.Need-returns
-unfolding with_start
 returns c =
-    let i = c.before.before in
-    let k = i.before in
-    rw (← k.kind.ensures, sym i.is-named-decl.ensures ∙ c.before.if1.true, ← c.name.ensures)
+    let s = c.before.before.before.before.before.before in
+    start-here _ _ _ s.requires.0 s.requires.3 _ c.name.ensures s.requires.2
 
 returns-2 : tie.Need-returns-2
-unfolding with_start
 returns-2 c =
     let i = c.before in
     let k = i.before in
-    rw (← k.kind.ensures, sym i.is-named-decl.ensures ∙ c.if1.false)
+    let s = k.before.before.before in
+    start_none _ _ _ s.requires.0 s.requires.3 (rw (← k.kind.ensures) (sym i.is-named-decl.ensures ∙ c.if1.false))
 
 pub set-start-spec : {M : Type 1} → statement M
 set-start-spec =

@@ -1,26 +1,23 @@
 -- `size_fields::starts::step` meets its contract. Assumes nothing.
 use borrow.Author.Rules.{rules}
-use native.Mathlib.Omega.{arith}
 use mathlib.Core.Path.{sym, ◌∙◌}
-use Rattle.size_fields.proofs.starts.Laws.{later-decl, later-other, filled-decl}
+use Rattle.size_fields.proofs.starts.Laws.{later-decl, later-other}
 use Rattle.size_fields.proofs.starts.step.Statement.{statement}
 use Rattle.size_fields.proofs.starts.step.Tie as tie
 
 set-starts-requires : tie.Need-set-starts-requires
 set-starts-requires c κs =
-    let s = c.before.before.before.before.before.before.before.before in
-    let e = s.requires.2.ends in
-    (omega (arith, e), omega (arith, e, s.requires.1), s.requires.3)
+    let f = c.before.before in
+    let i = f.before in
+    let k = i.before in
+    let s = k.before.before.before.before in
+    (s.requires.1, rw (← k.kind.ensures) (sym i.is-decl.ensures ∙ f.if1.true), s.requires.2, s.requires.3)
 
 returns : tie.Need-returns
 returns c =
     let m = c.before.before in
-    let f = m.before.before.before in
-    let i = f.before in
-    let k = i.before in
-    let s = k.before.before.before.before in
-    let d = sym i.is-decl.ensures ∙ f.if1.true in
-    (λ old w. filled-decl _ old _ _ _ _ s.requires.2 (rw (← k.kind.ensures) d) m.set-starts.ensures w, later-decl _ _ _ _ s.requires.0 s.requires.2 (rw (← k.kind.ensures) d))
+    let s = m.before.before.before.before.before.before.before.before.before in
+    (m.set-starts.ensures, later-decl _ _ _ _ s.requires.0 s.requires.2)
 
 returns-2 : tie.Need-returns-2
 returns-2 c =
@@ -29,7 +26,7 @@ returns-2 c =
     let k = i.before in
     let s = k.before.before.before.before in
     let d = sym i.is-decl.ensures ∙ f.if1.false in
-    (λ old w. w, later-other _ _ _ _ s.requires.0 s.requires.2 _ c.name_of.ensures s.requires.3.0 (rw (← k.kind.ensures) d))
+    (s.requires.3.2, later-other _ _ _ _ s.requires.0 s.requires.2 _ c.name_of.ensures s.requires.3.0 (rw (← k.kind.ensures) d))
 
 pub step_spec : {M : Type 1} → statement M
 step_spec =

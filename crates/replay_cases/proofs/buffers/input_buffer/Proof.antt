@@ -1,0 +1,12 @@
+-- `replay_cases::buffers::input_buffer` meets its contract. Assumes nothing.
+use Prim.Native.Nat.{ℕ}
+use mathlib.Core.Path.{sym}
+use lib.ListN.{length-replicate}
+use Rattle.replay_cases.proofs.buffers.input_buffer.Statement.{statement}
+use Rattle.replay_cases.proofs.buffers.input_buffer.Tie as tie
+
+returns : tie.Need-returns
+returns c = sym (length-replicate {A = ℕ} _ 0)
+
+pub input-buffer-spec : {M : Type 1} → statement M
+input-buffer-spec = tie.close (tie.spec returns)
