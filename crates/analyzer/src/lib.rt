@@ -1,4 +1,6 @@
 // The analyzer: the rows of the table of replies, first match from the top.
+#![tactic(auto)]
+
 ghost use Rattle.std.specs.Prelude.{◌≡◌, ◌≤◌, length};
 ghost use Rattle.rules.specs.Table.{decode};
 ghost use Rattle.rules.specs.Replies.{answered, by_passes, answer};

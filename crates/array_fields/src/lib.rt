@@ -1,4 +1,6 @@
 // Pass 8, `check_array_fields`: code 38 at the first Size or Count that names an array of fixed count.
+#![tactic(auto)]
+
 ghost use Rattle.std.specs.Prelude.{◌≡◌};
 ghost use Rattle.rules.specs.Table.{decode};
 ghost use Rattle.rules.specs.Places.{first_within};

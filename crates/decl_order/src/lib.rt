@@ -1,4 +1,6 @@
 // Pass 2: the visits, and, if they find no fault, the copy of the declarations in listed order.
+#![tactic(auto)]
+
 ghost use Rattle.std.specs.Prelude.{◌≡◌, ◌*◌, ◌≤◌, length, take};
 ghost use Rattle.rules.specs.Table.{decode};
 ghost use Rattle.rules.specs.Bytes.{written};

@@ -1,4 +1,6 @@
 // What a declaration refers to by a name, its parent or the packet of a test: nothing, a fault, or a declaration to visit.
+#![tactic(auto)]
+
 pub mod field_references;
 
 ghost use Rattle.std.specs.Prelude.{◌≡◌};

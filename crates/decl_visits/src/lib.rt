@@ -1,5 +1,7 @@
 // The visits of pass 2: declarations are visited depth first, what they refer to is checked, and each is listed after
 // all that it follows.
+#![tactic(auto)]
+
 ghost use Rattle.std.specs.Prelude.{◌≡◌, ◌+◌, ◌-◌, ◌^◌, ◌≤◌, ◌<◌, length, set, replicate};
 ghost use Rattle.rules.specs.Table.{decode, at};
 ghost use Rattle.rules.specs.Faults.{single, log};

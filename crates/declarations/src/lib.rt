@@ -1,4 +1,6 @@
 // Declarations found by their names. An array says where the search for a name may start.
+#![tactic(auto)]
+
 pub mod starts;
 
 ghost use Rattle.std.specs.Prelude.{◌≡◌, ◌%◌, get_or};

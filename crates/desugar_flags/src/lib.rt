@@ -1,4 +1,6 @@
 // Flags: a named field that a condition of its declaration names becomes a Flag with its entries.
+#![tactic(auto)]
+
 ghost use Rattle.std.specs.Prelude.{◌≡◌, List, ℕ, ◌≤◌, length};
 ghost use Rattle.rules.specs.Table.{decode};
 ghost use Rattle.rules.specs.DesugarFlags.{loose_at, first_loose, desugared};

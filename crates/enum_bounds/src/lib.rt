@@ -1,4 +1,6 @@
 // The bounds of ranges, kept as numbers, so that a value is held against them without a read of the table.
+#![tactic(auto)]
+
 pub mod range;
 
 ghost use Rattle.std.specs.Prelude.{◌≡◌, ◌≤◌, leb, length, take};

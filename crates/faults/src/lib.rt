@@ -1,4 +1,6 @@
 // The fault buffer: the first faults, as many whole ones as fit, and a total that counts all.
+#![tactic(auto)]
+
 pub mod fault;
 pub mod notes;
 

@@ -1,4 +1,6 @@
 // Pass 3, `check_field_identifiers`: code 11 at a field whose name an earlier field of the declaration has.
+#![tactic(auto)]
+
 ghost use Rattle.std.specs.Prelude.{◌≡◌, ◌+◌, ◌^◌, ◌<◌, ◌≤◌};
 ghost use Rattle.rules.specs.Table.{decode};
 ghost use Rattle.rules.specs.Faults.{log, logged};

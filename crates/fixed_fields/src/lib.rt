@@ -1,4 +1,6 @@
 // Pass 6, `check_fixed_fields`: fixed values wider than their field, and fixed tags that no enum has.
+#![tactic(auto)]
+
 ghost use Rattle.std.specs.Prelude.{◌≡◌};
 ghost use Rattle.rules.specs.Table.{decode};
 ghost use Rattle.rules.specs.FixedFields.{enum_fault, pass6_at};

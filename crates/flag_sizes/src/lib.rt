@@ -1,4 +1,6 @@
 // Sizes with flags: how many entries each field gets from the conditions that name it, and how many records the table becomes.
+#![tactic(auto)]
+
 pub mod conditions;
 
 ghost use Rattle.std.specs.Prelude.{◌≡◌, ◌+◌, ◌-◌, ◌<◌, ◌≤◌, length};

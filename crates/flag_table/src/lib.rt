@@ -1,4 +1,6 @@
 // The table with flags, written record by record.
+#![tactic(auto)]
+
 ghost use Rattle.std.specs.Prelude.{◌≡◌, [], ◌∷◌, ◌++◌, ◌+◌, ◌-◌, ◌<◌, ◌≤◌, length};
 ghost use Rattle.rules.specs.Bytes.{written};
 ghost use Rattle.rules.specs.Table.{decode, encode};

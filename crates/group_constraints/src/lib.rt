@@ -1,4 +1,6 @@
 // Constraints: the stack of their places, the one that holds, and what it makes of a field.
+#![tactic(auto)]
+
 ghost use Rattle.std.specs.Prelude.{◌≡◌, ◌++◌, ◌+◌, ◌≤◌, length, take};
 ghost use Rattle.rules.specs.Table.{decode};
 ghost use Rattle.rules.specs.InlineGroups.{lookup, fixed_scalar, fixed_enum, inlined_record};

@@ -1,4 +1,6 @@
 // The sizes of declarations once their groups are inlined, by place.
+#![tactic(auto)]
+
 pub mod targets;
 
 ghost use Rattle.std.specs.Prelude.{◌≡◌, ◌+◌, ◌<◌, ◌≤◌, min, length, get_or};

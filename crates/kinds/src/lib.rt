@@ -1,4 +1,6 @@
 // The kinds of records by their numbers, under the names of crates/rules/specs/Kinds.antt, and groups of kinds.
+#![tactic(auto)]
+
 ghost use Rattle.std.specs.Prelude.{◌≡◌};
 ghost use Rattle.rules.specs.Kinds.{is_decl, is_named_decl, is_packet_or_struct, holds_fields, is_field, is_named_field, may_refer, is_condition_or_entry, is_size, is_size_or_count, is_payload, is_tag, is_outer_tag, is_value, is_written_only};
 ghost use Rattle.rules.specs.InlineGroups.{is_constraint_or_condition, is_kept};

@@ -1,4 +1,6 @@
 // The layout of a table: its length, the row of each record and the place where it stands.
+#![tactic(auto)]
+
 mod rows;
 
 ghost use Rattle.std.specs.Prelude.{◌≡◌, ◌+◌, ◌<◌, ◌≤◌, length};

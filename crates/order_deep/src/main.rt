@@ -1,5 +1,7 @@
 // Orders the two deepest tables. Prints of each how many records are listed, how many faults are found and
 // which name is listed first.
+#![tactic(auto)]
+
 ghost use Rattle.std.specs.Prelude.{◌≡◌, ◌<◌, length};
 
 use rules::Record;

@@ -1,4 +1,6 @@
 // Pass 9, `check_padding_fields`: code 39 at a padding that does not directly follow an array.
+#![tactic(auto)]
+
 ghost use Rattle.std.specs.Prelude.{◌≡◌};
 ghost use Rattle.rules.specs.Table.{decode};
 ghost use Rattle.rules.specs.PaddingFields.{not_after_array, pass9_at};

@@ -1,4 +1,6 @@
 // All faults of a pass, by its number: pass 1, and passes 3 to 9, place by place.
+#![tactic(auto)]
+
 ghost use Rattle.std.specs.Prelude.{◌≡◌, ◌⊎◌, List, [], false, ℕ, ◌+◌, ◌^◌, ◌<◌, ◌≤◌, length};
 ghost use Rattle.rules.specs.Table.{decode, at};
 ghost use Rattle.rules.specs.declared.Record.{Record};

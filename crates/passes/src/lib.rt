@@ -1,4 +1,6 @@
 // The nine passes in their order, then the table: the rows from Faulty on.
+#![tactic(auto)]
+
 ghost use Rattle.std.specs.Prelude.{◌≡◌, [], ◌*◌, ◌≤◌, length};
 ghost use Rattle.rules.specs.Table.{decode};
 ghost use Rattle.rules.specs.Scopes.{pass1};

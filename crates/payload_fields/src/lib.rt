@@ -1,4 +1,6 @@
 // Pass 7, `check_payload_fields`: a second Payload or Body, and a parent that has none though a child has fields.
+#![tactic(auto)]
+
 pub mod parents;
 
 ghost use Rattle.std.specs.Prelude.{◌≡◌, length};

@@ -1,4 +1,6 @@
 // The C interface of the analyzer: library/pdl.h is its header.
+#![tactic(auto)]
+
 mod header;
 
 ghost use Rattle.std.specs.Prelude.{◌≡◌};

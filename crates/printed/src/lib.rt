@@ -1,4 +1,6 @@
 // What the program prints, appended to one lent text: the reply's line, and a line for each fault kept or record.
+#![tactic(auto)]
+
 ghost use Rattle.std.specs.Prelude.{◌≡◌, ◌+◌, ◌*◌, ◌≤◌, min, length};
 ghost use Rattle.rules.specs.Faults.{fault_at, fault_room};
 ghost use Rattle.rules.specs.Replies.{numbered, answered};

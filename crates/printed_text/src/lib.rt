@@ -1,4 +1,6 @@
 // Lines of words and decimal numbers, appended to one lent text.
+#![tactic(auto)]
+
 pub mod replies;
 
 ghost use Rattle.std.specs.Prelude.{[], ◌∷◌, ◌++◌, ◌+◌, ◌*◌, ◌≤◌, length};

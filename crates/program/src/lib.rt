@@ -1,4 +1,6 @@
 // The program's body: standard input to its end, the analyzer, and the printed answer in one text.
+#![tactic(auto)]
+
 mod input;
 
 ghost use Rattle.std.specs.Prelude.{◌≡◌, ◌≤◌, length};

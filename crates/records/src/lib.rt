@@ -1,4 +1,6 @@
 // The records of a table, read whole.
+#![tactic(auto)]
+
 ghost use Rattle.std.specs.Prelude.{◌≡◌, ◌<◌, length};
 ghost use Rattle.rules.specs.Table.{decode, at};
 

@@ -1,4 +1,6 @@
 // Records that repeat an earlier one of their declaration.
+#![tactic(auto)]
+
 pub mod marks;
 
 ghost use Rattle.std.specs.Prelude.{◌≡◌};

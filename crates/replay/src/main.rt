@@ -1,4 +1,6 @@
 // Replays stored tables through parts of the analyzer: a line for each case says what the part answered.
+#![tactic(auto)]
+
 use pass_checks::Checked;
 use replay_cases::Next;
 use rules::limits::{MOST_RECORDS, RECORD_LENGTH, TABLE_LENGTH};

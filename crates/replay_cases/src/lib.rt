@@ -1,6 +1,8 @@
 // Stored cases, read from standard input, and what is printed of them.
 // A case is four numbers of four bytes (the part of the analyzer that it is for, and the lengths of the input, of the table buffer and
 // of the fault buffer) and the input.
+#![tactic(auto)]
+
 pub mod buffers;
 
 ghost use Rattle.std.specs.Prelude.{◌<◌, length};

@@ -1,4 +1,6 @@
 // Pass 1, `Scope::new`: code 1 at each repeated name of a declaration.
+#![tactic(auto)]
+
 ghost use Rattle.std.specs.Prelude.{◌≡◌};
 ghost use Rattle.rules.specs.Table.{decode};
 ghost use Rattle.rules.specs.Scopes.{pass1_at};

@@ -1,4 +1,6 @@
 // Searches among the places of a table.
+#![tactic(auto)]
+
 pub mod members;
 mod targets;
 

@@ -1,5 +1,7 @@
 // A walker: the table that it is lent and the current place. The functions over it take it apart and call one on the
 // slice and the number; `kind_after` serves callers that have a slice and a number.
+#![tactic(auto)]
+
 ghost use Rattle.std.specs.Prelude.{◌≡◌, ◌+◌};
 ghost use Rattle.rules.specs.Table.{decode, at};
 ghost use Rattle.walker.specs.Steps.{next_place};

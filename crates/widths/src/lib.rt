@@ -1,4 +1,6 @@
 // Module 1: `bit_width` and `scalar_max`, for every value and every width of 64 bits.
+#![tactic(auto)]
+
 ghost use Rattle.std.specs.Prelude.{◌≡◌};
 ghost use Rattle.rules.specs.Widths.{bit_width, scalar_max};
 
