@@ -1,0 +1,7 @@
+-- `store::put` meets its contract. Assumes nothing.
+use borrow.Author.Rules.{rules}
+use Rattle.store.proofs.put.Goals as goal
+
+pub returns : goal.returns
+returns c =
+    rw (c.write.ensures, c.bytes_of-bytes.ensures)
