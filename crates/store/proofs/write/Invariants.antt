@@ -10,8 +10,8 @@ use lib.ListN.{length, set, get_or, length-set}
 use lib.Seq.{paste, paste-zero, paste-suc, take-length}
 use Rattle.store.proofs.write.Given as goal
 
-abbrev invariant-loop : tie.invariant-loop
-invariant-loop d₀ i s j₀ d j = (d ≡ paste d₀ i s j) × (j ≤ length s) × (length d ≡ length d₀)
+abbrev pub invariant-loop-j : goal.invariant-loop-j
+invariant-loop-j l = (l.buffer ≡ paste l.initial.buffer l.from l.bytes l.j) × (l.j ≤ length l.bytes) × (length l.buffer ≡ length l.initial.buffer)
 
-abbrev decreases-loop : tie.decreases-loop
-decreases-loop d₀ i s j₀ d j = length s - j
+abbrev pub decreases-loop-j : goal.decreases-loop-j
+decreases-loop-j l = length l.bytes - l.j
