@@ -1,0 +1,25 @@
+-- `search::members::member_count` meets its contract. Assumes nothing.
+use borrow.Author.Rules.{rules}
+use native.Mathlib.Omega.{arith}
+use Prim.Native.Nat.{ℕ, ◌+◌, ◌-◌}
+use mathlib.Core.Path.{sym, ap, ◌∙◌}
+use Rattle.rules.specs.Table.{decode}
+use Rattle.table.proofs.Laws.{length-decode}
+use Rattle.search.proofs.members.Laws.{members-in, count_at, count-end}
+use Rattle.search.proofs.members.member_count.Goals as goal
+
+pub overflow_add-a : goal.overflow_add-a
+overflow_add-a c =
+    omega (arith, length-decode c.args.table.now)
+
+pub overflow_sub-result : goal.overflow_sub-result
+overflow_sub-result c =
+    (count_at (decode c.args.table.now) c.args.decl c.in-At.e c.requires (sym c.first.ensures ∙ c.in-At.is)).0
+
+pub returns-in-At : goal.returns-in-At
+returns-in-At c =
+    let z = count_at (decode c.args.table.now) c.args.decl c.in-At.e c.requires (sym c.first.ensures ∙ c.in-At.is) in (z.1, rw z.1 (members-in (decode c.args.table.now) c.args.decl c.requires))
+
+pub returns-in-Nothing : goal.returns-in-Nothing
+returns-in-Nothing c =
+    let z = ap (λ (x : ℕ). x - (c.args.decl + 1)) c.count.ensures ∙ count-end (decode c.args.table.now) c.args.decl (sym c.first.ensures ∙ c.in-Nothing.is) in (z, rw z (members-in (decode c.args.table.now) c.args.decl c.requires))

@@ -1,0 +1,14 @@
+-- `search::nearest` meets its contract: no place from i up to p is what is looked for. Assumes nothing.
+use borrow.Author.Rules.{rules}
+use mathlib.Core.Path.{◌≡◌, refl, sym, ◌∙◌}
+use Rattle.rules.specs.Table.{decode}
+use Rattle.rules.specs.Places.{nearest}
+use Rattle.rules.specs.Places.{holds_at}
+use Rattle.table.proofs.Laws.{down-hit, down-miss, down-end}
+use Rattle.search.proofs.nearest.Given as goal
+
+abbrev pub invariant-loop-i : goal.invariant-loop-i
+invariant-loop-i l = nearest (holds_at (decode l.table) l.target) l.place ≡ nearest (holds_at (decode l.table) l.target) l.i
+
+abbrev pub decreases-loop-i : goal.decreases-loop-i
+decreases-loop-i l = l.i
