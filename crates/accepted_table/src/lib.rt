@@ -17,7 +17,7 @@ use table::FEW_RECORDS;
 const SMALL_LENGTH: usize = RECORD_LENGTH * 2 * FEW_RECORDS;
 
 // What came of writing the table: a reply, or that the buffer is too short for the inlined table.
-#[derive(Drop)]
+#[derive(Clone, Copy)]
 enum TableWritten {
     Done(Reply),
     Short,

@@ -13,7 +13,7 @@ use rules::limits::MOST_RECORDS;
 use table::{NO_PLACE, REMAINDERS};
 
 // How many records are listed, and the faults found.
-#[derive(Drop)]
+#[derive(Clone, Copy)]
 pub struct OrderResult {
     pub records: usize,
     pub tally: Tally,

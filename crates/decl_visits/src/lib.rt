@@ -15,7 +15,7 @@ use decl_references::{own_reference, root_reference};
 use rules::{Reference, Tally, codes};
 
 // How many places are listed, and the faults found.
-#[derive(Drop)]
+#[derive(Clone, Copy)]
 pub struct VisitProgress {
     pub listed: usize,
     pub tally: Tally,

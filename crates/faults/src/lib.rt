@@ -13,7 +13,7 @@ use rules::limits::FAULT_LENGTH;
 use rules::{Fault, Tally};
 
 // What is found at a place: at most one fault.
-#[derive(Drop)]
+#[derive(Clone, Copy)]
 pub enum Finding {
     One(Fault),
     None,

@@ -13,14 +13,14 @@ use records::record;
 use rules::{FieldKey, Inlined};
 
 // Whether every record so far is fit, or the key of the first that is not.
-#[derive(Drop)]
+#[derive(Clone, Copy)]
 pub enum Fit {
     All,
     Unfit(FieldKey),
 }
 
 // How many records are written, and whether all are fit.
-#[derive(Drop)]
+#[derive(Clone, Copy)]
 pub struct ExpandProgress {
     pub count: usize,
     pub fit: Fit,

@@ -12,7 +12,7 @@ use rules::FieldKey;
 use rules::limits::{MOST_RECORDS, RECORD_LENGTH};
 
 // The answer of inlining: a row of the table of replies, or how many records the inlined table has.
-#[derive(Drop)]
+#[derive(Clone, Copy)]
 pub enum Inlining {
     Swollen,
     // the inlined table is longer than the buffer

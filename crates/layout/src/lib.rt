@@ -14,7 +14,7 @@ use rules::Layout;
 use rules::limits::{MOST_RECORDS, RECORD_LENGTH};
 
 // The kinds around a place: of its declaration, and of the records two and one before it; 0 outside the table.
-#[derive(Drop)]
+#[derive(Clone, Copy)]
 struct Around {
     decl: u8,
     before2: u8,

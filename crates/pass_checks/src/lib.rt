@@ -18,7 +18,7 @@ pub fn scope_new(table: &[u8], buffer: &mut [u8]) -> Tally
 }
 
 // The answer of passes 3 to 9: the lowest that finds faults and their total, or none.
-#[derive(Drop)]
+#[derive(Clone, Copy)]
 pub enum Checked {
     Faulty(u8, usize),
     Clean,

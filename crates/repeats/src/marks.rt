@@ -7,7 +7,7 @@ use rules::limits::MOST_RECORDS;
 use table::{DIVISOR, REMAINDERS};
 
 // What each record of a declaration has of its own.
-#[derive(Drop)]
+#[derive(Clone, Copy)]
 pub enum Compared {
     // the names of the fields
     FieldNames,

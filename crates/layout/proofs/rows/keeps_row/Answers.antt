@@ -1,0 +1,6 @@
+-- `layout::rows::keeps_row` meets its contract. Assumes nothing.
+use borrow.Author.Rules.{rules}
+use Rattle.layout.proofs.rows.keeps_row.Goals as goal
+
+pub returns : goal.returns
+returns c = rw (← c.row_of.ensures) c.keeps.ensures
