@@ -9,9 +9,9 @@ use Rattle.layout.proofs.sound_at.Goals as goal
 pub returns-then-not-spare_zero : goal.returns-then-not-spare_zero
 unfolding sound_at
 returns-then-not-spare_zero c =
-    rw (← c.base-i.ensures.0, sym c.spare_zero.ensures ∙ not-true _ c.if-not-spare_zero.true)
+    rw (← c.base-i.ensures.0, sym c.spare_zero.ensures ∙ c.if-not-spare_zero.true)
 
 pub returns : goal.returns
 unfolding sound_at around
 returns c =
-    rw (c.may_stand.ensures, c.keeps_row.ensures, ← c.base-i.ensures.0, sym c.spare_zero.ensures ∙ not-false _ c.if-not-spare_zero.false, c.record-r.ensures, c.requires.1)
+    rw (c.may_stand.ensures, c.keeps_row.ensures, ← c.base-i.ensures.0, sym c.spare_zero.ensures ∙ c.if-not-spare_zero.false, c.record-r.ensures, c.requires.1)

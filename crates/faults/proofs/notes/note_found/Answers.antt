@@ -1,0 +1,12 @@
+-- `faults::notes::note_found` meets its contract. Assumes nothing.
+use borrow.Author.Rules.{rules}
+use mathlib.Core.Path.{◌∙◌}
+use Rattle.faults.proofs.Laws.{noted-none, noted_one}
+use Rattle.faults.proofs.notes.note_found.Goals as goal
+
+pub returns-in-One : goal.returns-in-One
+returns-in-One c =
+    rw c.in-One.is (c.noted.ensures ∙ noted_one _ _)
+
+pub returns-in-None : goal.returns-in-None
+returns-in-None c = rw c.in-None.is (noted-none _)
