@@ -22,7 +22,7 @@ unfolding layout
 returns-then-table-ne0 c =
     let t = c.args.table.now in
     let e : Uneven ≡ layout t = rw (ne_eqb (length t % 40) 0 (λ z. c.if-table-ne0.true (omega (arith, z)))) in
-    (e, ap layout_numbered e)
+    record { value = e; numbered = ap layout_numbered e }
 
 pub returns-then-n-gt-MOST_RECORDS : goal.returns-then-n-gt-MOST_RECORDS
 unfolding layout
@@ -31,7 +31,7 @@ returns-then-n-gt-MOST_RECORDS c =
     let even = eq-eqb (length t % 40) 0 (omega (arith, c.if-table-ne0.false)) in
     let long = lt-ltb 1600 c.count-n.result (omega (arith, c.if-n-gt-MOST_RECORDS.true)) in
     let e : TooLong ≡ layout t = rw (even, ← c.count-n.ensures, long) in
-    (e, ap layout_numbered e)
+    record { value = e; numbered = ap layout_numbered e }
 
 pub loop-p-init : goal.loop-p-init
 loop-p-init c = (refl, around-start _)
@@ -46,13 +46,13 @@ returns-then-not-sound_at c =
     let t = c.args.table.now in
     let even = eq-eqb (length t % 40) 0 (omega (arith, c.if-table-ne0.false)) in
     let fits = le-ltb 1600 c.count-n.result (omega (arith, c.if-n-gt-MOST_RECORDS.false)) in
-    let unsound = ap not (sym c.sound_at.ensures) ∙ c.if-not-sound_at.true in
+    let unsound = ap not (sym c.sound_at.ensures ∙ c.if-not-sound_at.true) in
     let e : Malformed c.loop-p.p ≡ layout t = rw (even, ← c.count-n.ensures, fits, ← up-hit _ _ _ c.loop-p.p c.loop-p.invariant.0 c.loop-p-test.true unsound ∙ ap (first _ 0) (sub-zero _)) in
-    (e, ap layout_numbered e)
+    record { value = e; numbered = ap layout_numbered e }
 
 pub loop-p-preserved : goal.loop-p-preserved
 loop-p-preserved c =
-    (up-miss _ _ _ c.loop-p.p c.loop-p.invariant.0 c.loop-p-test.true (ap not (sym c.sound_at.ensures) ∙ c.if-not-sound_at.false), c.step-a.ensures ∙ rw (c.loop-p.invariant.1, c.kind.ensures) (around-next _ c.loop-p.p))
+    (up-miss _ _ _ c.loop-p.p c.loop-p.invariant.0 c.loop-p-test.true (ap not (sym c.sound_at.ensures ∙ c.if-not-sound_at.false)), c.step-a.ensures ∙ rw (c.loop-p.invariant.1, c.kind.ensures) (around-next _ c.loop-p.p))
 
 pub returns : goal.returns
 unfolding layout
@@ -61,4 +61,4 @@ returns c =
     let even = eq-eqb (length t % 40) 0 (omega (arith, c.if-table-ne0.false)) in
     let fits = le-ltb 1600 c.count-n.result (omega (arith, c.if-n-gt-MOST_RECORDS.false)) in
     let e : Sound ≡ layout t = rw (even, ← c.count-n.ensures, fits, ← up-end _ _ _ c.loop-p.p c.loop-p.invariant.0 c.loop-p-test.false ∙ ap (first _ 0) (sub-zero _)) in
-    (e, ap layout_numbered e)
+    record { value = e; numbered = ap layout_numbered e }

@@ -124,5 +124,5 @@ returns-in-43 c = rw (c.in-43.is, c.packed-in-43.ensures)
 pub returns-in_default : goal.returns-in_default
 unfolding row_of row_among rows unpacked
 returns-in_default c =
-    let m = c.in-1 in
+    let m = c.in_default.in_default-own in
     rw (ne_eqb _ _ m.rest.0.0.0.0.0.0.0.0.0.0.0.0.0.0.0.0.0.0.0.0.0.0.0.0.0.0.0.0.1, ne_eqb _ _ m.rest.0.0.0.0.0.0.0.0.0.0.0.0.0.0.0.0.0.0.0.0.0.0.0.0.0.0.0.1, ne_eqb _ _ m.rest.0.0.0.0.0.0.0.0.0.0.0.0.0.0.0.0.0.0.0.0.0.0.0.0.0.0.1, ne_eqb _ _ m.rest.0.0.0.0.0.0.0.0.0.0.0.0.0.0.0.0.0.0.0.0.0.0.0.0.0.1, ne_eqb _ _ m.rest.0.0.0.0.0.0.0.0.0.0.0.0.0.0.0.0.0.0.0.0.0.0.0.0.1, ne_eqb _ _ m.rest.0.0.0.0.0.0.0.0.0.0.0.0.0.0.0.0.0.0.0.0.0.0.0.1, ne_eqb _ _ m.rest.0.0.0.0.0.0.0.0.0.0.0.0.0.0.0.0.0.0.0.0.0.0.1, ne_eqb _ _ m.rest.0.0.0.0.0.0.0.0.0.0.0.0.0.0.0.0.0.0.0.0.0.1, ne_eqb _ _ m.rest.0.0.0.0.0.0.0.0.0.0.0.0.0.0.0.0.0.0.0.0.1, ne_eqb _ _ m.rest.0.0.0.0.0.0.0.0.0.0.0.0.0.0.0.0.0.0.0.1, ne_eqb _ _ m.rest.0.0.0.0.0.0.0.0.0.0.0.0.0.0.0.0.0.0.1, ne_eqb _ _ m.rest.0.0.0.0.0.0.0.0.0.0.0.0.0.0.0.0.0.1, ne_eqb _ _ m.rest.0.0.0.0.0.0.0.0.0.0.0.0.0.0.0.0.1, ne_eqb _ _ m.rest.0.0.0.0.0.0.0.0.0.0.0.0.0.0.0.1, ne_eqb _ _ m.rest.0.0.0.0.0.0.0.0.0.0.0.0.0.0.1, ne_eqb _ _ m.rest.0.0.0.0.0.0.0.0.0.0.0.0.0.1, ne_eqb _ _ m.rest.0.0.0.0.0.0.0.0.0.0.0.0.1, ne_eqb _ _ m.rest.0.0.0.0.0.0.0.0.0.0.0.1, ne_eqb _ _ m.rest.0.0.0.0.0.0.0.0.0.0.1, ne_eqb _ _ m.rest.0.0.0.0.0.0.0.0.0.1, ne_eqb _ _ m.rest.0.0.0.0.0.0.0.0.1, ne_eqb _ _ m.rest.0.0.0.0.0.0.0.1, ne_eqb _ _ m.rest.0.0.0.0.0.0.1, ne_eqb _ _ m.rest.0.0.0.0.0.1, ne_eqb _ _ m.rest.0.0.0.0.1, ne_eqb _ _ m.rest.0.0.0.1, ne_eqb _ _ m.rest.0.0.1, ne_eqb _ _ m.rest.0.1, ne_eqb _ _ m.rest.1, c.packed-in_default.ensures)
