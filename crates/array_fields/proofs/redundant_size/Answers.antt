@@ -1,0 +1,19 @@
+-- `array_fields::redundant_size` meets its contract: each way out is a case of the definition. Assumes nothing.
+use borrow.Author.Rules.{rules}
+use mathlib.Core.Path.{sym, ◌∙◌}
+use Rattle.rules.specs.ArrayFields.{redundant_size}
+use Rattle.array_fields.proofs.redundant_size.Goals as goal
+
+pub returns-then-is_decl : goal.returns-then-is_decl
+unfolding redundant_size
+returns-then-is_decl c =
+    rw (c.in-At.is, ← c.at-s.ensures, sym c.is_decl.ensures ∙ c.if-is_decl.true)
+
+pub returns-else-is_decl : goal.returns-else-is_decl
+unfolding redundant_size
+returns-else-is_decl c =
+    rw (c.double.ensures, c.in-At.is, ← c.at-s.ensures, sym c.is_decl.ensures ∙ c.if-is_decl.false, ← c.at.ensures)
+
+pub returns-in-Nothing : goal.returns-in-Nothing
+unfolding redundant_size
+returns-in-Nothing c = rw c.in-Nothing.is

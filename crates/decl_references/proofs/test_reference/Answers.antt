@@ -1,0 +1,19 @@
+-- `decl_references::test_reference` meets its contract. Assumes nothing.
+use borrow.Author.Rules.{rules}
+use borrow.Author.Tests.{eq-eqb, ne_eqb}
+use Rattle.rules.specs.DeclIdentifiers.{test_reference}
+use Rattle.decl_references.proofs.test_reference.Goals as goal
+
+pub returns-then-kind-eq-PACKET : goal.returns-then-kind-eq-PACKET
+unfolding test_reference
+returns-then-kind-eq-PACKET c =
+    rw (c.in-At.is, ← c.kind.ensures, eq-eqb _ _ c.if-kind-eq-PACKET.true)
+
+pub returns-else-kind-eq-PACKET : goal.returns-else-kind-eq-PACKET
+unfolding test_reference
+returns-else-kind-eq-PACKET c =
+    rw (c.in-At.is, ← c.kind.ensures, ne_eqb _ _ c.if-kind-eq-PACKET.false)
+
+pub returns-in-Nothing : goal.returns-in-Nothing
+unfolding test_reference
+returns-in-Nothing c = rw c.in-Nothing.is
