@@ -1,0 +1,10 @@
+-- `flag_table::entry_of` meets its contract. Assumes nothing.
+use borrow.Author.Rules.{rules}
+use mathlib.Core.Path.{◌∙◌}
+use Rattle.rules.specs.Table.{decode}
+use Rattle.flag_table.proofs.Laws.{entry-as}
+use Rattle.flag_table.proofs.entry_of.Goals as goal
+
+pub returns : goal.returns
+returns c =
+    entry-as (decode c.args.table.now) c.args.place c.at-condition.ensures (c.at-field.ensures ∙ rw c.place_before.ensures)

@@ -1,0 +1,15 @@
+-- `flag_table::write_all` meets its contract. Assumes nothing.
+use borrow.Author.Rules.{rules}
+use native.Mathlib.Omega.{arith}
+use mathlib.Core.Path.{◌≡◌}
+use Prim.Native.Nat.{◌-◌, ◌≤◌}
+use lib.ListN.{length}
+use Rattle.rules.specs.Table.{decode}
+use Rattle.flag_table.proofs.Laws.{Filled, filled-start, filled-long, filled-end, filled-room, filled_next}
+use Rattle.flag_table.proofs.write_all.Given as goal
+
+abbrev pub invariant-loop-p : goal.invariant-loop-p
+invariant-loop-p l = Filled (decode l.table) l.initial.out l.out l.n l.a l.p × (l.p ≤ l.end) × (l.end ≡ length (decode l.table))
+
+abbrev pub decreases-loop-p : goal.decreases-loop-p
+decreases-loop-p l = l.end - l.p

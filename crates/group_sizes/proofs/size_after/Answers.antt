@@ -1,0 +1,50 @@
+-- `group_sizes::size_after` meets its contract: what is counted and what is left make the whole. Assumes nothing.
+use borrow.Author.Rules.{rules}
+use native.Mathlib.Omega.{arith}
+use mathlib.Core.Path.{◌≡◌, sym, ◌∙◌}
+use mathlib.Core.Logic.{inl, inr}
+use Prim.Native.Nat.{◌-◌}
+use lib.ListN.{length}
+use Rattle.rules.specs.Table.{decode}
+use Rattle.group_sizes.proofs.Fields.{Seen}
+use Rattle.group_sizes.proofs.Measures.{Sizing, sizing-start, sizing-next, sizing-end, target-in}
+use Rattle.group_sizes.proofs.size_after.Goals as goal
+
+-- the facts of a turn past its first tests
+seen : (c : tie.After-is-constraint-or-condition invariant-loop decreases-loop) → Seen (decode c.before.before.before.before.before.before.before.before.before.before.args.table.now) c.before.before.before.before.before.loop.p c.before.before.before.kind.result c.is-constraint-or-condition.result
+seen c =
+    let i = c.before in
+    let k = i.before.before in
+    let l = k.before.before in
+    let e = k.kind.ensures in
+    record {
+      below = omega (arith, l.loop.invariant.1, k.before.loop-test.true);
+      inside = rw (← e) (sym i.before.is-decl.ensures ∙ i.if1.false);
+      is-kind = e;
+      is_bound = rw (← e) c.is-constraint-or-condition.ensures;
+    }
+
+pub loop-p-init : goal.loop-p-init
+loop-p-init c = (sizing-start _ _ _ _ c.requires.4, c.count-end.ensures)
+
+pub returns-then-is_decl : goal.returns-then-is_decl
+returns-then-is_decl c =
+    let w = c.loop-p.invariant in
+    sizing-end w.0 (inl (omega (arith, w.1, c.loop-p-test.true), rw (← c.kind-k.ensures) (sym c.is_decl.ensures ∙ c.if-is_decl.true)))
+
+pub size_here-x-requires : goal.size_here-x-requires
+size_here-x-requires c =
+    let h = seen c in
+    (omega (arith, h.below, c.requires.1.long), target-in c.args.sizes.now c.requires.1 c.requires.2 h)
+
+pub overflow_add-s : goal.overflow_add-s
+overflow_add-s c =
+    omega (arith, c.loop-p.invariant.0.small, c.loop-p.invariant.1, c.loop-p-test.true, c.requires.0, c.size_here-x.type-inv)
+
+pub loop-p-preserved : goal.loop-p-preserved
+loop-p-preserved c =
+    let w = c.loop-p.invariant in
+    (sizing-next w.0 (seen c) (let o = c.size_here-x.type-inv in omega arith) c.size_here-x.ensures, w.1)
+
+pub returns : goal.returns
+returns c = let w = c.loop-p.invariant in sizing-end w.0 (inr (omega (arith, w.1, c.loop-p-test.false)))
