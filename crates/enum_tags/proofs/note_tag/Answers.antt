@@ -40,4 +40,4 @@ returns-in-43 c =
 pub returns-in_default : goal.returns-in_default
 unfolding tag_faults
 returns-in_default c =
-    rw (← c.kind.ensures, ne_eqb _ _ c.in_default.is.0.0.0.1, ne_eqb _ _ c.in_default.is.0.0.1, ne_eqb _ _ c.in_default.is.0.1, ne_eqb _ _ c.in_default.is.1) (noted-none _)
+    rw (← c.kind.ensures, ne_eqb _ _ c.in_default.in_default-own.rest.0.0.0.1, ne_eqb _ _ c.in_default.in_default-own.rest.0.0.1, ne_eqb _ _ c.in_default.in_default-own.rest.0.1, ne_eqb _ _ c.in_default.in_default-own.rest.1) (noted-none _)

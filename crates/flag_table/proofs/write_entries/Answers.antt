@@ -12,13 +12,6 @@ use Rattle.flag_sizes.proofs.Laws.{entries-decl, entries-end, entries-hit, entri
 use Rattle.flag_table.proofs.Writing.{Progress, progress_start, progress-end, progress-same, progress-long, progress-room, progress-one}
 use Rattle.flag_table.proofs.write_entries.Goals as goal
 
--- the facts of a turn past its first test
-below : (c : tie.Else1 invariant-loop decreases-loop) → c.before.before.before.before.loop.p < length (decode c.before.before.before.before.before.before.before.before.args.table.now)
-below c = omega (arith, c.before.before.before.before.loop.invariant.1, c.before.before.before.loop-test.true)
-
-inside : (c : tie.Else1 invariant-loop decreases-loop) → is_decl (at (decode c.before.before.before.before.before.before.before.before.args.table.now) c.before.before.before.before.loop.p).kind ≡ false
-inside c = rw (← c.before.before.kind.ensures) (sym c.before.is-decl.ensures ∙ c.if1.false)
-
 pub loop-p-init : goal.loop-p-init
 loop-p-init c = (progress_start _ _ _, c.count-end.ensures)
 
@@ -31,15 +24,15 @@ returns-then-is_decl c =
 
 pub append-n-requires : goal.append-n-requires
 append-n-requires c =
-    rw c.entry_of.ensures (progress-room c.loop-p.invariant.0 c.requires (entries-hit _ _ c.loop-p.p (below c) (inside c) (sym c.is_condition_on.ensures ∙ c.if-is_condition_on.true)))
+    rw c.entry_of.ensures (progress-room c.loop-p.invariant.0 c.requires (entries-hit _ _ c.loop-p.p (omega (arith, c.loop-p.invariant.1, c.loop-p-test.true)) (rw (← c.kind.ensures) (sym c.is_decl.ensures ∙ c.if-is_decl.false)) (sym c.is_condition_on.ensures ∙ c.if-is_condition_on.true)))
 
 pub loop-p-preserved-then-is_condition_on : goal.loop-p-preserved-then-is_condition_on
 loop-p-preserved-then-is_condition_on c =
-    (progress-one c.loop-p.invariant.0 c.requires (entries-hit _ _ c.loop-p.p (below c) (inside c) (sym c.is_condition_on.ensures ∙ c.if-is_condition_on.true)) (rw c.entry_of.ensures at c.append-n.ensures), c.loop-p.invariant.1)
+    (progress-one c.loop-p.invariant.0 c.requires (entries-hit _ _ c.loop-p.p (omega (arith, c.loop-p.invariant.1, c.loop-p-test.true)) (rw (← c.kind.ensures) (sym c.is_decl.ensures ∙ c.if-is_decl.false)) (sym c.is_condition_on.ensures ∙ c.if-is_condition_on.true)) (rw c.entry_of.ensures at c.append-n.ensures), c.loop-p.invariant.1)
 
 pub loop-p-preserved : goal.loop-p-preserved
 loop-p-preserved c =
-    (progress-same c.loop-p.invariant.0 _ (entries-miss _ _ c.loop-p.p (below c) (inside c) (sym c.is_condition_on.ensures ∙ c.if-is_condition_on.false)), c.loop-p.invariant.1)
+    (progress-same c.loop-p.invariant.0 _ (entries-miss _ _ c.loop-p.p (omega (arith, c.loop-p.invariant.1, c.loop-p-test.true)) (rw (← c.kind.ensures) (sym c.is_decl.ensures ∙ c.if-is_decl.false)) (sym c.is_condition_on.ensures ∙ c.if-is_condition_on.false)), c.loop-p.invariant.1)
 
 pub shape_of-out : goal.shape_of-out
 shape_of-out c = progress-long c.loop-p.invariant.0 c.requires

@@ -11,32 +11,25 @@ use Rattle.group_sizes.specs.Sizes.{Sized}
 use Rattle.group_sizes.proofs.Measures.{sized-start, sized-next, sized-other, sized-end}
 use Rattle.group_sizes.proofs.measure.Goals as goal
 
--- the facts of a declaration
-below : (c : tie.Then1 invariant-loop decreases-loop) → c.before.before.before.before.loop.d < length (decode c.before.before.before.before.before.before.before.before.before.args.table.now)
-below c = omega (arith, c.before.before.before.before.loop.invariant.2, c.before.before.before.loop-test.true)
-
-decl : (c : tie.Then1 invariant-loop decreases-loop) → is_decl (at (decode c.before.before.before.before.before.before.before.before.before.args.table.now) c.before.before.before.before.loop.d).kind ≡ true
-decl c = rw (← c.before.before.kind.ensures) (sym c.before.is-decl.ensures ∙ c.if1.true)
-
 pub loop-d-init : goal.loop-d-init
-loop-d-init c = (sized-start _ _ _ c.requires.0.2, search rules, c.count-end.ensures, refl)
+loop-d-init c = (sized-start _ _ _ c.requires.table_len_bound.2, search rules, c.count-end.ensures, refl)
 
 pub size_after-s-requires : goal.size_after-s-requires
 size_after-s-requires c =
-    let p = c.requires.0 in
-    (p.0, p.1, c.loop-d.invariant.0.long, below c, decl c)
+    let p = c.requires.table_len_bound in
+    (p.0, p.1, c.loop-d.invariant.0.long, (omega (arith, c.loop-d.invariant.2, c.loop-d-test.true)), (rw (← c.kind-k.ensures) (sym c.is_decl.ensures ∙ c.if-is_decl.true)))
 
 pub offset_bounds-sizes-q : goal.offset_bounds-sizes-q
-offset_bounds-sizes-q c = omega (arith, below c, c.requires.0.0)
+offset_bounds-sizes-q c = omega (arith, c.loop-d.invariant.2, c.loop-d-test.true, c.requires.table_len_bound.0)
 
 pub bounds-sizes-q : goal.bounds-sizes-q
-bounds-sizes-q c = omega (arith, below c, c.loop-d.invariant.0.long)
+bounds-sizes-q c = omega (arith, c.loop-d.invariant.2, c.loop-d-test.true, c.loop-d.invariant.0.long)
 
 pub loop-d-preserved-then-is_decl : goal.loop-d-preserved-then-is_decl
 loop-d-preserved-then-is_decl c =
     let l = c.loop-d in
     let h = c.loop-d-test.true in
-    (sized-next l.invariant.0 c.requires.1 c.requires.0.1 (below c) (decl c) c.saturated.ensures c.size_after-s.ensures, omega arith, l.invariant.2, length-set l.sizes l.d c.saturated.result ∙ l.invariant.3)
+    (sized-next l.invariant.0 c.requires.groups_first c.requires.table_len_bound.1 (omega (arith, c.loop-d.invariant.2, c.loop-d-test.true)) (rw (← c.kind-k.ensures) (sym c.is_decl.ensures ∙ c.if-is_decl.true)) c.saturated.ensures c.size_after-s.ensures, omega arith, l.invariant.2, length-set l.sizes l.d c.saturated.result ∙ l.invariant.3)
 
 pub loop-d-preserved : goal.loop-d-preserved
 loop-d-preserved c =

@@ -10,20 +10,6 @@ use Rattle.group_sizes.proofs.Fields.{Seen}
 use Rattle.group_sizes.proofs.Measures.{Sizing, sizing-start, sizing-next, sizing-end, target-in}
 use Rattle.group_sizes.proofs.size_after.Goals as goal
 
--- the facts of a turn past its first tests
-seen : (c : tie.After-is-constraint-or-condition invariant-loop decreases-loop) → Seen (decode c.before.before.before.before.before.before.before.before.before.before.args.table.now) c.before.before.before.before.before.loop.p c.before.before.before.kind.result c.is-constraint-or-condition.result
-seen c =
-    let i = c.before in
-    let k = i.before.before in
-    let l = k.before.before in
-    let e = k.kind.ensures in
-    record {
-      below = omega (arith, l.loop.invariant.1, k.before.loop-test.true);
-      inside = rw (← e) (sym i.before.is-decl.ensures ∙ i.if1.false);
-      is-kind = e;
-      is_bound = rw (← e) c.is-constraint-or-condition.ensures;
-    }
-
 pub loop-p-init : goal.loop-p-init
 loop-p-init c = (sizing-start _ _ _ _ c.requires.4, c.count-end.ensures)
 
@@ -34,17 +20,32 @@ returns-then-is_decl c =
 
 pub size_here-x-requires : goal.size_here-x-requires
 size_here-x-requires c =
-    let h = seen c in
+    let e = c.kind-k.ensures in
+    let h : Seen (decode c.args.table.now) c.loop-p.p c.kind-k.result c.is_constraint_or_condition-c.result =
+      record {
+        below = omega (arith, c.loop-p.invariant.1, c.loop-p-test.true);
+        inside = rw (← e) (sym c.is_decl.ensures ∙ c.if-is_decl.false);
+        is-kind = e;
+        is_bound = rw (← e) c.is_constraint_or_condition-c.ensures;
+      } in
     (omega (arith, h.below, c.requires.1.long), target-in c.args.sizes.now c.requires.1 c.requires.2 h)
 
 pub overflow_add-s : goal.overflow_add-s
 overflow_add-s c =
-    omega (arith, c.loop-p.invariant.0.small, c.loop-p.invariant.1, c.loop-p-test.true, c.requires.0, c.size_here-x.type-inv)
+    omega (arith, c.loop-p.invariant.0.small, c.loop-p.invariant.1, c.loop-p-test.true, c.requires.0, c.size_here-x.type_inv)
 
 pub loop-p-preserved : goal.loop-p-preserved
 loop-p-preserved c =
     let w = c.loop-p.invariant in
-    (sizing-next w.0 (seen c) (let o = c.size_here-x.type-inv in omega arith) c.size_here-x.ensures, w.1)
+    let e = c.kind-k.ensures in
+    let h : Seen (decode c.args.table.now) c.loop-p.p c.kind-k.result c.is_constraint_or_condition-c.result =
+      record {
+        below = omega (arith, c.loop-p.invariant.1, c.loop-p-test.true);
+        inside = rw (← e) (sym c.is_decl.ensures ∙ c.if-is_decl.false);
+        is-kind = e;
+        is_bound = rw (← e) c.is_constraint_or_condition-c.ensures;
+      } in
+    (sizing-next w.0 h (let o = c.size_here-x.type_inv in omega arith) c.size_here-x.ensures, w.1)
 
 pub returns : goal.returns
 returns c = let w = c.loop-p.invariant in sizing-end w.0 (inr (omega (arith, w.1, c.loop-p-test.false)))

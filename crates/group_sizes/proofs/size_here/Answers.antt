@@ -8,7 +8,7 @@ pub overflow_cast-g : goal.overflow_cast-g
 overflow_cast-g c = omega (arith, c.type_inv.targets c.args.place)
 
 pub offset_bounds-sizes-g : goal.offset_bounds-sizes-g
-offset_bounds-sizes-g c = omega (arith, c.requires.1 c.if-kind-eq-GROUP_FIELD.true, c.well-formed)
+offset_bounds-sizes-g c = omega (arith, c.requires.1 c.if-kind-eq-GROUP_FIELD.true, c.well_formed)
 
 pub bounds-sizes-g : goal.bounds-sizes-g
 bounds-sizes-g c = c.requires.1 c.if-kind-eq-GROUP_FIELD.true

@@ -13,15 +13,15 @@ use Rattle.group_sizes.proofs.targets.fill_from.Goals as goal
 pub loop-p-init : goal.loop-p-init
 loop-p-init c =
     let e = c.count-end.ensures in
-    (c.requires.0.2, omega (arith, c.requires.0.1, e), e, refl)
+    (c.requires.table_len_bound.2, omega (arith, c.requires.table_len_bound.1, e), e, refl)
 
 pub overflow_cast-targets : goal.overflow_cast-targets
 overflow_cast-targets c =
-    omega (arith, named_in _ _ (sym c.decl_named.ensures ∙ c.in-At.is), c.requires.0.0)
+    omega (arith, named_in _ _ (sym c.decl_named.ensures ∙ c.in-At.is), c.requires.table_len_bound.0)
 
 pub offset_bounds-targets-q : goal.offset_bounds-targets-q
 offset_bounds-targets-q c =
-    omega (arith, c.loop-p.invariant, c.requires.0.0, c.loop-p-test.true)
+    omega (arith, c.loop-p.invariant, c.requires.table_len_bound.0, c.loop-p-test.true)
 
 pub bounds-targets-q : goal.bounds-targets-q
 bounds-targets-q c =
@@ -45,7 +45,7 @@ loop-p-preserved-in_default c =
     let h = c.loop-p-test.true in
     let e = c.decl_named.ensures ∙ ap (decl_named _) c.second-x.ensures in
     let k = sym c.kind.ensures ∙ c.if-kind-eq-GROUP_FIELD.true in
-    (known-never v.0 c.requires.1.0 (omega (arith, v.2, h)) k e c.in_default.is, omega arith, v.2, v.3)
+    (known-never v.0 c.requires.groups_first.0 (omega (arith, v.2, h)) k e c.in_default.is, omega arith, v.2, v.3)
 
 pub loop-p-preserved : goal.loop-p-preserved
 loop-p-preserved c =
