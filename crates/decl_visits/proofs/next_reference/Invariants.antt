@@ -1,0 +1,16 @@
+-- `decl_visits::next_reference` meets its contract: the fields from p up to q are skipped. Assumes nothing.
+use borrow.Author.Rules.{rules}
+use native.Mathlib.Omega.{arith}
+use Prim.Native.Nat.{◌-◌}
+use mathlib.Core.Path.{sym, ◌∙◌}
+use lib.ListN.{length}
+use Rattle.rules.specs.Table.{decode}
+use Rattle.decl_visits.specs.Contract.{Skipped}
+use Rattle.decl_visits.proofs.Skips.{skip_below, skip-none, skip-more}
+use Rattle.decl_visits.proofs.next_reference.Given as goal
+
+abbrev pub invariant-loop-q : goal.invariant-loop-q
+invariant-loop-q l = Skipped (decode l.table) l.place l.q
+
+abbrev pub decreases-loop-q : goal.decreases-loop-q
+decreases-loop-q l = length (decode l.table) - l.q

@@ -1,0 +1,8 @@
+-- `decl_visits::note` meets its contract. Assumes nothing.
+use borrow.Author.Rules.{rules}
+use mathlib.Core.Path.{refl}
+use Rattle.decl_visits.proofs.note.Goals as goal
+
+pub returns : goal.returns
+returns c =
+    (refl, rw (← c.at.ensures, ← c.single-f.ensures) c.noted-tally.ensures)

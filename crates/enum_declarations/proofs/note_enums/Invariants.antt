@@ -1,0 +1,22 @@
+-- `enum_declarations::note_enums` meets its contract: after d turns the faults of the places below d are noted. Assumes nothing.
+use borrow.Author.Rules.{rules}
+use native.Mathlib.Omega.{arith}
+use Prim.Native.Nat.{◌-◌, ◌≤◌}
+use mathlib.Core.Path.{◌≡◌, refl, ◌∙◌}
+use lib.ListN.{length}
+use Rattle.rules.specs.Table.{decode}
+use Rattle.rules.specs.Places.{each}
+use Rattle.rules.specs.Faults.{log}
+use Rattle.rules.specs.EnumDeclarations.{pass4_at, pass4}
+use Rattle.faults.specs.Notes.{no_faults, noted_all}
+use Rattle.faults.proofs.Laws.{noted-start, noted-place, noted-end, noted-logged, each-total}
+use Rattle.enum_declarations.proofs.Laws.{place-few}
+use Rattle.enum_declarations.proofs.note_enums.Given as goal
+
+abbrev pub invariant-loop-d : goal.invariant-loop-d
+invariant-loop-d l =
+    (log l.tally l.buffer ≡ noted_all (log no_faults l.initial.buffer) (each (pass4_at (decode l.table)) l.d)) × (l.d ≤ l.n) × (l.n ≡ length (decode l.table))
+    × (length l.buffer ≡ length l.initial.buffer) × (length l.places ≡ length l.initial.places) × (length l.lows ≡ length l.initial.lows) × (length l.highs ≡ length l.initial.highs)
+
+abbrev pub decreases-loop-d : goal.decreases-loop-d
+decreases-loop-d l = l.n - l.d

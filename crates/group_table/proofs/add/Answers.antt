@@ -1,0 +1,8 @@
+-- `group_table::add` meets its contract. Assumes nothing.
+use borrow.Author.Rules.{rules}
+use Rattle.group_table.specs.Outputs.{added}
+use Rattle.group_table.proofs.add.Goals as goal
+
+pub returns : goal.returns
+unfolding added
+returns c = rw (c.put.ensures, c.fit_after-fit.ensures)
