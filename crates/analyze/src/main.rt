@@ -1,6 +1,6 @@
 // The program: a table on standard input, its answer on standard output.
 #![tactic(auto)]
 
-fn main() {
-    program::run();
+fn main(rt: HostRuntime) {
+    program::run(&rt);
 }

@@ -1,6 +1,6 @@
 // The program on 64041 bytes.
 #![tactic(auto)]
 
-fn main() {
-    program::run();
+fn main(rt: HostRuntime) {
+    program::run(&rt);
 }

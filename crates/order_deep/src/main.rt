@@ -6,6 +6,7 @@ ghost use Rattle.std.specs.Prelude.{◌≡◌, ◌<◌, length};
 
 use rules::Record;
 use rules::limits::{FAULT_LENGTH, MOST_RECORDS, TABLE_LENGTH};
+use std::io::Print;
 
 // The last place of the longest table, and the name of the declaration there.
 const LAST: usize = MOST_RECORDS - 1;
@@ -73,28 +74,28 @@ fn structs_with_fields(table: &mut [u8])
     }
 }
 
-fn line(number: u64) {
-    io::print_decimal(1, number);
-    io::write_all(1, b"\n");
+// A number on a line. A write that fails is let go, as the output then differs.
+fn line<R: Print>(rt: &R, number: u64) {
+    let _ = println!(rt; "{number}");
 }
 
 // Orders the table and prints what came of it.
-fn show(table: &[u8], buffer: &mut [u8], out: &mut [u8])
+fn show<R: Print>(rt: &R, table: &[u8], buffer: &mut [u8], out: &mut [u8])
     requires { (length table.now ≡ 64000) × (length out.old ≡ 64000) }
 {
     let r = decl_order::check_decl_identifiers(table, buffer, out);
-    line(r.records as u64);
+    line(rt, r.records as u64);
     let tally = r.tally;
-    line(tally.total as u64);
-    line(table::name(out, 0) as u64);
+    line(rt, tally.total as u64);
+    line(rt, table::name(out, 0) as u64);
 }
 
-fn main() {
+fn main(rt: HostRuntime) {
     let mut table = [0u8; TABLE_LENGTH];
     let mut out = [0u8; TABLE_LENGTH];
     let mut buffer = [0u8; 10 * FAULT_LENGTH];
     children(&mut table);
-    show(&table, &mut buffer, &mut out);
+    show(&rt, &table, &mut buffer, &mut out);
     structs_with_fields(&mut table);
-    show(&table, &mut buffer, &mut out);
+    show(&rt, &table, &mut buffer, &mut out);
 }

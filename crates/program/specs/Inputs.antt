@@ -16,4 +16,4 @@ pub record StandsFor (i j : List ℕ) : Type 0 where
 -- what was read has room in the input's buffer
 abbrev pub ReadingFits : Reading → Type 0
 ReadingFits (End n) = n ≤ 64040
-ReadingFits Failed = Unit {0}
+ReadingFits (Failed e) = Unit {0}

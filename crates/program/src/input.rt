@@ -2,14 +2,14 @@
 ghost use Rattle.std.specs.Prelude.{◌≡◌, List, ◌++◌, ℕ, ◌+◌, ◌≤◌, length, take};
 ghost use Rattle.program.specs.Inputs.{short_length, StandsFor, ReadingFits};
 
-use libc::STDIN_FILENO;
 use rules::limits::{RECORD_LENGTH, TABLE_LENGTH};
+use std::io::{Error, ErrorKind, Read};
 
-// The input read, as the number of bytes that stand for it, or a read that failed.
+// The input read, as the number of bytes that stand for it, or why a read failed.
 #[derive(Drop)]
 pub enum Reading {
     End(usize),
-    Failed,
+    Failed(Error),
 }
 
 // Room for the longest table and for each remainder of a length above it.
@@ -51,24 +51,18 @@ fn append_input(input: &mut [u8], total: usize, next: &[u8]) -> usize
     short_length(total + n)
 }
 
-// Reads standard input to its end. The turns are counted down from a number that no run uses up.
-pub fn read_all(input: &mut [u8], chunk: &mut [u8]) -> Reading
+// Reads to the reader's end. The turns are bounded by a number that no run uses up.
+pub fn read_all<R: Read>(reader: &mut R, input: &mut [u8], chunk: &mut [u8]) -> Reading
     requires { (64040 ≤ length input.old) × (length chunk.old ≤ 65536) }
     ensures { ReadingFits result }
 {
     let mut total = 0;
-    let mut turns = u64::MAX;
-    while 0 < turns {
-        turns -= 1;
-        let got = libc::read(STDIN_FILENO, chunk);
-        if got < 0 {
-            return Reading::Failed;
+    for _ in 0..u64::MAX {
+        match reader.read(chunk) {
+            Ok(0) => return Reading::End(total),
+            Ok(n) => total = append_input(input, total, &chunk[..n]),
+            Err(e) => return Reading::Failed(e),
         }
-        let n = io::count(got, chunk);
-        if n == 0 {
-            return Reading::End(total);
-        }
-        total = append_input(input, total, &chunk[..n]);
     }
-    Reading::Failed
+    Reading::Failed(Error::from(ErrorKind::TimedOut))
 }

@@ -9,14 +9,23 @@ ghost use Rattle.rules.specs.Printed.{printed, program};
 ghost use Rattle.printed_text.specs.TextAppended.{TextBegins};
 
 use input::{INPUT_LENGTH, Reading};
-use libc::STDOUT_FILENO;
 use rules::limits::TABLE_LENGTH;
+use std::io::{Eprint, Error, Input, Print};
 
 // Room for every length of which the reply depends on more than the remainder, and for each remainder above.
 fn input_buffer() -> [u8; INPUT_LENGTH]
     ensures { 64040 ≡ length result }
 {
     [0; INPUT_LENGTH]
+}
+
+// Room for what one read may bring.
+const CHUNK_LENGTH: usize = 65_536;
+
+fn chunk_buffer() -> [u8; CHUNK_LENGTH]
+    ensures { 65536 ≡ length result }
+{
+    [0; CHUNK_LENGTH]
 }
 
 // Room for all that the program can print.
@@ -47,25 +56,31 @@ fn answer_text(input: &[u8], text: &mut [u8]) -> usize
     answer_with(input, &mut table, &mut faults, text)
 }
 
+// What failed and why, on standard error. Nothing is left to tell if that fails too.
+fn fail<R: Eprint>(rt: &R, what: &str, error: Error) {
+    let _ = eprintln!(rt; "{what}: {error}");
+}
+
 // Prints the answer in one piece. A write that fails is said on standard error.
-fn print(input: &[u8], text: &mut [u8])
+fn print<R: Print + Eprint>(rt: &R, input: &[u8], text: &mut [u8])
     requires { 340000 ≤ length text.old }
 {
     let n = answer_text(input, text);
-    if !io::write_all(STDOUT_FILENO, &text[..n]) {
-        os::fail(b"standard output");
+    if let Err(e) = rt.write_all(&text[..n]) {
+        fail(rt, "standard output", e);
     }
 }
 
 // A read that fails is said on standard error, and nothing is answered.
-pub fn run() {
+pub fn run<R: Input + Print + Eprint>(rt: &R) {
     let mut input = input_buffer();
-    let mut chunk = io::large_buffer();
-    match input::read_all(&mut input, &mut chunk) {
+    let mut chunk = chunk_buffer();
+    let mut reader = rt.reader();
+    match input::read_all(&mut reader, &mut input, &mut chunk) {
         Reading::End(n) => {
             let mut text = text_buffer();
-            print(&input[..n], &mut text);
+            print(rt, &input[..n], &mut text);
         }
-        Reading::Failed => os::fail(b"standard input"),
+        Reading::Failed(e) => fail(rt, "standard input", e),
     }
 }

@@ -1,4 +1,4 @@
-// Stored cases, read from standard input, and what is printed of them.
+// Stored cases, read from a reader, and what is printed of them.
 // A case is four numbers of four bytes (the part of the analyzer that it is for, and the lengths of the input, of the table buffer and
 // of the fault buffer) and the input.
 #![tactic(auto)]
@@ -8,8 +8,8 @@ pub mod buffers;
 ghost use Rattle.std.specs.Prelude.{◌<◌, length};
 ghost use Rattle.replay_cases.specs.Cases.{CaseFits};
 
-use libc::{STDIN_FILENO, STDOUT_FILENO};
 use rules::limits::TABLE_LENGTH;
+use std::io::{Print, Read};
 
 // What a case is for, and its lengths.
 #[derive(Drop)]
@@ -28,12 +28,11 @@ pub enum Next {
 }
 
 // Reads the next case. A case that is cut short or too long for the buffers ends the replay, so that the output differs.
-pub fn next_case(input: &mut [u8]) -> Next
+pub fn next_case<R: Read>(reader: &mut R, input: &mut [u8]) -> Next
     ensures { CaseFits (length input.new) result }
 {
     let mut head = [0u8; 16];
-    let n = io::read_full(STDIN_FILENO, &mut head);
-    if n < 16 {
+    if reader.read_exact(&mut head).is_err() {
         return Next::End;
     }
     let part = numbers::number4(&head, 0);
@@ -43,8 +42,7 @@ pub fn next_case(input: &mut [u8]) -> Next
     if input.len() < size || TABLE_LENGTH < table || TABLE_LENGTH < faults {
         return Next::End;
     }
-    let m = io::read_full(STDIN_FILENO, &mut input[..size]);
-    if m < size {
+    if reader.read_exact(&mut input[..size]).is_err() {
         return Next::End;
     }
     Next::Read(Case {
@@ -81,9 +79,9 @@ pub fn fill(buffer: &mut [u8]) {
     }
 }
 
-// A number and a byte behind it.
-pub fn print(number: u64, end: u8) {
-    io::print_decimal(STDOUT_FILENO, number);
+// A number and a byte behind it. A write that fails is let go, as the output then differs.
+pub fn print<R: Print>(rt: &R, number: u64, end: u8) {
+    let _ = rt.print(number);
     let text = [end];
-    io::write_all(STDOUT_FILENO, &text);
+    let _ = rt.write_all(&text);
 }
