@@ -37,7 +37,7 @@ returns-in-9 c =
 pub returns-in_default : goal.returns-in_default
 unfolding pass_at
 returns-in_default c =
-    rw (ne_eqb _ _ c.in_default.is.0.0.0.0.0.1, ne_eqb _ _ c.in_default.is.0.0.0.0.1, ne_eqb _ _ c.requires.0, ne_eqb _ _ c.requires.1, ne_eqb _ _ c.in_default.is.0.0.0.1, ne_eqb _ _ c.in_default.is.0.0.1, ne_eqb _ _ c.in_default.is.0.1, ne_eqb _ _ c.in_default.is.1)
+    rw (ne_eqb _ _ c.in_default.in_default-own.rest.0.0.0.0.0.1, ne_eqb _ _ c.in_default.in_default-own.rest.0.0.0.0.1, ne_eqb _ _ c.requires.0, ne_eqb _ _ c.requires.1, ne_eqb _ _ c.in_default.in_default-own.rest.0.0.0.1, ne_eqb _ _ c.in_default.in_default-own.rest.0.0.1, ne_eqb _ _ c.in_default.in_default-own.rest.0.1, ne_eqb _ _ c.in_default.in_default-own.rest.1)
 
 pub at_place-requires : goal.at_place-requires
 at_place-requires c = c.requires.2.decls c.in-1.is

@@ -19,28 +19,28 @@ use Rattle.pass_faults.proofs.looked_at.Goals as goal
 
 pub returns-in-1 : goal.returns-in-1
 unfolding pass_at pass1_at first is_among
-returns-in-1 c =
+returns-in-1 c rs p h =
     let k : ℕ = (at rs p).kind in
     let e = not-between _ k h 1 6 (omega arith) refl in
     rw (c.in-1.is, e)
 
 pub returns-in-3 : goal.returns-in-3
 unfolding pass_at pass3_at first is_among
-returns-in-3 c =
+returns-in-3 c rs p h =
     let k : ℕ = (at rs p).kind in
     let e = not-between _ k h 30 33 (omega arith) refl in
     rw (c.in-3.is, e)
 
 pub returns-in-5 : goal.returns-in-5
 unfolding pass_at pass5_at size_again size_target first is_among
-returns-in-5 c =
+returns-in-5 c rs p h =
     let k : ℕ = (at rs p).kind in
     let e = not-between _ k h 22 24 (omega arith) refl in
     rw (c.in-5.is, e)
 
 pub returns-in-6 : goal.returns-in-6
 unfolding pass_at pass6_at first is_among
-returns-in-6 c =
+returns-in-6 c rs p h =
     let k : ℕ = (at rs p).kind in
     let e = not_equal _ k h 27 (omega arith) refl in
     let f = not_equal _ k h 28 (omega arith) refl in
@@ -48,7 +48,7 @@ returns-in-6 c =
 
 pub returns-in-7 : goal.returns-in-7
 unfolding pass_at pass7_at first is_among
-returns-in-7 c =
+returns-in-7 c rs p h =
     let k : ℕ = (at rs p).kind in
     let e = not-between _ k h 25 26 (omega arith) refl in
     let f = not-between _ k h 1 6 (omega arith) refl in
@@ -56,20 +56,20 @@ returns-in-7 c =
 
 pub returns-in-8 : goal.returns-in-8
 unfolding pass_at pass8_at first is_among
-returns-in-8 c =
+returns-in-8 c rs p h =
     let k : ℕ = (at rs p).kind in
     let e = not_equal _ k h 30 (omega arith) refl in
     rw (c.in-8.is, e)
 
 pub returns-in-9 : goal.returns-in-9
 unfolding pass_at pass9_at first is_among
-returns-in-9 c =
+returns-in-9 c rs p h =
     let k : ℕ = (at rs p).kind in
     let e = not_equal _ k h 21 (omega arith) refl in
     rw (c.in-9.is, e)
 
 pub returns-in_default : goal.returns-in_default
 unfolding pass_at
-returns-in_default c =
-    let r = c.in_default.is in
+returns-in_default c rs p h =
+    let r = c.in_default.in_default-own.rest in
     rw (ne_eqb _ _ c.requires, ne_eqb _ _ r.0.0.0.0.0.0.1, ne_eqb _ _ r.0.0.0.0.0.1, ne_eqb _ _ r.0.0.0.0.1, ne_eqb _ _ r.0.0.0.1, ne_eqb _ _ r.0.0.1, ne_eqb _ _ r.0.1, ne_eqb _ _ r.1)

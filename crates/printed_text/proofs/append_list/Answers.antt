@@ -7,7 +7,7 @@ use Rattle.printed_text.proofs.append_list.Goals as goal
 
 pub append_rest-requires : goal.append_rest-requires
 append_rest-requires c =
-    omega (arith, c.append_digits-p.ensures.place, c.append_digits-p.auto.0, length-decimal c.args.first)
+    omega (arith, c.append_digits-p.ensures.place, c.append_digits-p.auto.text, length-decimal c.args.first)
 
 pub returns : goal.returns
 returns c =

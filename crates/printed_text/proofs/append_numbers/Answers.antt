@@ -26,7 +26,7 @@ append_digits-p-requires c =
 
 pub loop-i-preserved : goal.loop-i-preserved
 loop-i-preserved c =
-    (append-listed _ c.loop-i.i c.requires c.loop-i.invariant.1 c.loop-i.invariant.0 c.loop-i-test.true c.append_digits-p.ensures, omega (arith, length-set c.loop-i.text c.loop-i.p 32, c.append_digits-p.auto.0))
+    (append-listed _ c.loop-i.i c.requires c.loop-i.invariant.1 c.loop-i.invariant.0 c.loop-i-test.true c.append_digits-p.ensures, omega (arith, length-set c.loop-i.text c.loop-i.p 32, c.append_digits-p.auto.text))
 
 pub returns : goal.returns
 returns c =

@@ -1,16 +1,13 @@
 -- Laws of replies: how long their lines are, and which have no values. Assumes nothing.
-use Prim.Native.Nat.{◌-◌, ◌≤◌}
+use Prim.Native.Nat.{ℕ, ◌-◌, ◌≤◌}
 use mathlib.Core.Path.{◌≡◌, refl}
-use mathlib.Core.List.{[], ◌∷◌}
 use native.Mathlib.Omega.{arith}
 use lib.ListN.{length, get_or}
-use denote.Enum.Declared.{tag_of}
-use types.Run.{OneOf, miss}
 use Rattle.rules.specs.Printed.{ascii, names, reply_line}
 use Rattle.rules.specs.Replies.{numbered}
+use Rattle.rules.specs.declared.FieldKey.{FieldKey}
 use Rattle.rules.specs.declared.Reply.{Reply}
 use Rattle.rules.specs.declared.Reply.TheVariants.{Uneven, TooLong, Malformed, Faulty, Swollen, Unfit, Loose, Overlisted, NoRoom, Accepted}
-use Rattle.rules.specs.contracts.Reply.{the_type}
 use Rattle.printed_text.proofs.Laws.{length-line}
 
 -- a reply's name and numbers are few
@@ -32,29 +29,32 @@ unfolding reply_line
 length-reply r =
     omega (arith, length-line (ascii (get_or names ((numbered r).row - 1) "")) (numbered r).values, reply-few r)
 
--- four replies have no values, and the last of them is Overlisted
-pub no-values : (r : Reply) → OneOf (0 ∷ 1 ∷ 4 ∷ 7 ∷ []) (tag_of the_type r) → length (numbered r).values ≡ 0
+-- a reply that is none of those with values has none
+pub no-values : (r : Reply) → ((x : ℕ) → r ≡ Malformed x → ⊥) → ((x y : ℕ) → r ≡ Faulty x y → ⊥)
+    → ((k : FieldKey) → r ≡ Unfit k → ⊥) → ((k : FieldKey) → r ≡ Loose k → ⊥)
+    → ((x : ℕ) → r ≡ NoRoom x → ⊥) → ((x : ℕ) → r ≡ Accepted x → ⊥) → length (numbered r).values ≡ 0
 unfolding numbered
-no-values Uneven h = refl
-no-values TooLong h = refl
-no-values (Malformed place) h = absurd (miss (0 ∷ 1 ∷ 4 ∷ 7 ∷ []) 2 tt h)
-no-values (Faulty pass total) h = absurd (miss (0 ∷ 1 ∷ 4 ∷ 7 ∷ []) 3 tt h)
-no-values Swollen h = refl
-no-values (Unfit key) h = absurd (miss (0 ∷ 1 ∷ 4 ∷ 7 ∷ []) 5 tt h)
-no-values (Loose key) h = absurd (miss (0 ∷ 1 ∷ 4 ∷ 7 ∷ []) 6 tt h)
-no-values Overlisted h = refl
-no-values (NoRoom needed) h = absurd (miss (0 ∷ 1 ∷ 4 ∷ 7 ∷ []) 8 tt h)
-no-values (Accepted records) h = absurd (miss (0 ∷ 1 ∷ 4 ∷ 7 ∷ []) 9 tt h)
+no-values Uneven m f u l n a = refl
+no-values TooLong m f u l n a = refl
+no-values (Malformed place) m f u l n a = absurd (m place refl)
+no-values (Faulty pass total) m f u l n a = absurd (f pass total refl)
+no-values Swollen m f u l n a = refl
+no-values (Unfit key) m f u l n a = absurd (u key refl)
+no-values (Loose key) m f u l n a = absurd (l key refl)
+no-values Overlisted m f u l n a = refl
+no-values (NoRoom needed) m f u l n a = absurd (n needed refl)
+no-values (Accepted records) m f u l n a = absurd (a records refl)
 
-pub only-overlisted : (r : Reply) → OneOf (2 ∷ 3 ∷ 5 ∷ 6 ∷ 7 ∷ 8 ∷ 9 ∷ []) (tag_of the_type r) → length (numbered r).values ≡ 0 → r ≡ Overlisted
+-- of the four replies without values the last is Overlisted
+pub only-overlisted : (r : Reply) → (r ≡ Uneven → ⊥) → (r ≡ TooLong → ⊥) → (r ≡ Swollen → ⊥) → length (numbered r).values ≡ 0 → r ≡ Overlisted
 unfolding numbered
-only-overlisted Uneven h e = absurd (miss (2 ∷ 3 ∷ 5 ∷ 6 ∷ 7 ∷ 8 ∷ 9 ∷ []) 0 tt h)
-only-overlisted TooLong h e = absurd (miss (2 ∷ 3 ∷ 5 ∷ 6 ∷ 7 ∷ 8 ∷ 9 ∷ []) 1 tt h)
-only-overlisted (Malformed place) h e = absurd (omega (arith, e))
-only-overlisted (Faulty pass total) h e = absurd (omega (arith, e))
-only-overlisted Swollen h e = absurd (miss (2 ∷ 3 ∷ 5 ∷ 6 ∷ 7 ∷ 8 ∷ 9 ∷ []) 4 tt h)
-only-overlisted (Unfit key) h e = absurd (omega (arith, e))
-only-overlisted (Loose key) h e = absurd (omega (arith, e))
-only-overlisted Overlisted h e = refl
-only-overlisted (NoRoom needed) h e = absurd (omega (arith, e))
-only-overlisted (Accepted records) h e = absurd (omega (arith, e))
+only-overlisted Uneven u t s e = absurd (u refl)
+only-overlisted TooLong u t s e = absurd (t refl)
+only-overlisted (Malformed place) u t s e = absurd (omega (arith, e))
+only-overlisted (Faulty pass total) u t s e = absurd (omega (arith, e))
+only-overlisted Swollen u t s e = absurd (s refl)
+only-overlisted (Unfit key) u t s e = absurd (omega (arith, e))
+only-overlisted (Loose key) u t s e = absurd (omega (arith, e))
+only-overlisted Overlisted u t s e = refl
+only-overlisted (NoRoom needed) u t s e = absurd (omega (arith, e))
+only-overlisted (Accepted records) u t s e = absurd (omega (arith, e))

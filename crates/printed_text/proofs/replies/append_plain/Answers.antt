@@ -23,4 +23,4 @@ returns-in-Swollen c =
 pub returns-in_default : goal.returns-in_default
 unfolding reply_line numbered names ascii listing
 returns-in_default c =
-    rw (only-overlisted c.args.reply c.in_default.is c.requires.1) c.append_word-in_default.ensures
+    rw (only-overlisted c.args.reply c.in_default.not-Uneven c.in_default.not-TooLong c.in_default.not-Swollen c.requires.1) c.append_word-in_default.ensures

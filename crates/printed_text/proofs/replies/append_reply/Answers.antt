@@ -6,7 +6,7 @@ use Rattle.printed_text.proofs.replies.Laws.{no-values}
 use Rattle.printed_text.proofs.replies.append_reply.Goals as goal
 
 pub append_plain-requires : goal.append_plain-requires
-append_plain-requires c = (search rules, no-values _ c.in_default.is)
+append_plain-requires c = let d = c.in_default in (search rules, no-values _ d.not-Malformed d.not-Faulty d.not-Unfit d.not-Loose d.not-NoRoom d.not-Accepted)
 
 pub returns-in-Malformed : goal.returns-in-Malformed
 unfolding reply_line numbered names ascii listing
