@@ -7,8 +7,6 @@ use native.Mathlib.Nat.{mul-suc, mul-le-mul_left, le_antisymm}
 use native.Mathlib.Omega.{arith}
 use lib.Dec.{eqb}
 use lib.ListN.{length}
-use denote.Enum.Declared.{tag_of}
-use types.Run.{OneOf, miss}
 use borrow.Author.Tests.{ne_eqb}
 use Rattle.rules.specs.Choice.{if◌then◌else◌}
 use Rattle.rules.specs.Printed.{decimal, line, record_line, fault_line, detail}
@@ -18,7 +16,6 @@ use Rattle.rules.specs.Places.{each}
 use Rattle.rules.specs.Replies.{numbered}
 use Rattle.rules.specs.declared.Reply.{Reply}
 use Rattle.rules.specs.declared.Reply.TheVariants.{Uneven, TooLong, Malformed, Faulty, Swollen, Unfit, Loose, Overlisted, NoRoom, Accepted}
-use Rattle.rules.specs.contracts.Reply.{the_type}
 use Rattle.rules.specs.declared.Record.{Record}
 use Rattle.rules.specs.declared.Fault.{Fault}
 use Rattle.table.proofs.Laws.{each_more, each-few}
@@ -76,18 +73,18 @@ abbrev pub fault_line_at : List ℕ → ℕ → List ℕ
 fault_line_at b p = fault_line (fault_at b (20 * p))
 
 -- nothing stands behind the replies other than Faulty and Accepted
-pub no-detail : (r : Reply) → OneOf (0 ∷ 1 ∷ 2 ∷ 4 ∷ 5 ∷ 6 ∷ 7 ∷ 8 ∷ []) (tag_of the_type r) → (t f : List ℕ) → detail (numbered r) t f ≡ []
+pub no-detail : (r : Reply) → ((x y : ℕ) → r ≡ Faulty x y → ⊥) → ((x : ℕ) → r ≡ Accepted x → ⊥) → (t f : List ℕ) → detail (numbered r) t f ≡ []
 unfolding numbered detail
-no-detail Uneven h t f = refl
-no-detail TooLong h t f = refl
-no-detail (Malformed place) h t f = refl
-no-detail (Faulty pass total) h t f = absurd (miss (0 ∷ 1 ∷ 2 ∷ 4 ∷ 5 ∷ 6 ∷ 7 ∷ 8 ∷ []) 3 tt h)
-no-detail Swollen h t f = refl
-no-detail (Unfit key) h t f = refl
-no-detail (Loose key) h t f = refl
-no-detail Overlisted h t f = refl
-no-detail (NoRoom needed) h t f = refl
-no-detail (Accepted records) h t f = absurd (miss (0 ∷ 1 ∷ 2 ∷ 4 ∷ 5 ∷ 6 ∷ 7 ∷ 8 ∷ []) 9 tt h)
+no-detail Uneven h a t f = refl
+no-detail TooLong h a t f = refl
+no-detail (Malformed place) h a t f = refl
+no-detail (Faulty pass total) h a t f = absurd (h pass total refl)
+no-detail Swollen h a t f = refl
+no-detail (Unfit key) h a t f = refl
+no-detail (Loose key) h a t f = refl
+no-detail Overlisted h a t f = refl
+no-detail (NoRoom needed) h a t f = refl
+no-detail (Accepted records) h a t f = absurd (a records refl)
 
 pub records-behind : (n : ℕ) {r : Reply} → r ≡ Accepted n → records_behind (numbered r) ≡ n
 unfolding records_behind numbered
