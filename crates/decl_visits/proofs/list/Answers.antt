@@ -1,5 +1,4 @@
 -- `decl_visits::list` meets its contract. Assumes nothing.
-use borrow.Author.Rules.{rules}
 use mathlib.Core.Path.{refl}
 use Rattle.decl_visits.proofs.list.Goals as goal
 

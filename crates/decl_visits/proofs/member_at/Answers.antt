@@ -1,5 +1,4 @@
 -- `decl_visits::member_at` meets its contract. Assumes nothing.
-use borrow.Author.Rules.{rules}
 use Rattle.decl_visits.proofs.member_at.Goals as goal
 
 pub returns : goal.returns

@@ -1,12 +1,8 @@
 -- `decl_visits::next_reference` meets its contract: the fields from p up to q are skipped. Assumes nothing.
-use borrow.Author.Rules.{rules}
-use native.Mathlib.Omega.{arith}
 use Prim.Native.Nat.{◌-◌}
-use mathlib.Core.Path.{sym, ◌∙◌}
 use lib.ListN.{length}
 use Rattle.rules.specs.Table.{decode}
 use Rattle.decl_visits.specs.Contract.{Skipped}
-use Rattle.decl_visits.proofs.Skips.{skip_below, skip-none, skip-more}
 use Rattle.decl_visits.proofs.next_reference.Given as goal
 
 abbrev pub invariant-loop-q : goal.invariant-loop-q

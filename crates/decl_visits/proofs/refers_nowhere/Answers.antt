@@ -1,5 +1,4 @@
 -- `decl_visits::refers_nowhere` meets its contract. Assumes nothing.
-use borrow.Author.Rules.{rules}
 use Rattle.decl_visits.proofs.refers_nowhere.Goals as goal
 
 pub returns : goal.returns

@@ -1,11 +1,10 @@
 -- `decl_visits::visit_all` meets its contract: the places below p are taken up, and the rest makes the whole. Assumes nothing.
-use borrow.Author.Rules.{rules}
 use native.Mathlib.Omega.{arith}
 use mathlib.Core.Path.{refl, sym, ap, ◌∙◌}
-use Prim.Native.Nat.{◌-◌, ◌<◌, ◌≤◌}
+use Prim.Native.Nat.{◌<◌, ◌≤◌}
 use lib.ListN.{length, length-replicate}
 use Rattle.rules.specs.Table.{decode}
-use Rattle.decl_visits.proofs.Loop.{Turn, loop-start, loop-end, loop-call, loop-turn}
+use Rattle.decl_visits.proofs.Loop.{loop-start, loop-end, loop-call, loop-turn}
 use Rattle.decl_visits.proofs.visit_all.Goals as goal
 
 pub loop-p-init : goal.loop-p-init
@@ -29,7 +28,7 @@ pub loop-p-preserved : goal.loop-p-preserved
 loop-p-preserved c =
     let v = c.visit_root-a in
     let i : c.loop-p.p < length (decode c.args.table.now) = omega (arith, c.count-n.ensures, c.loop-p-test.true) in
-    loop-turn _ _ _ _ _ _ _ _ c.loop-p.invariant i _ _ _ _ v.ensures v.auto.1.1.1.1.0 v.auto.1.1.1.1.1.0
+    loop-turn _ _ _ _ _ _ _ _ c.loop-p.invariant i _ _ _ _ v.ensures v.auto.places v.auto.buffer
 
 pub shape_of-marks : goal.shape_of-marks
 shape_of-marks c =

@@ -1,11 +1,8 @@
 -- `decl_visits::visit_all` meets its contract: the places below p are taken up, and the rest makes the whole. Assumes nothing.
-use borrow.Author.Rules.{rules}
-use native.Mathlib.Omega.{arith}
-use mathlib.Core.Path.{refl, sym, ap, ◌∙◌}
-use Prim.Native.Nat.{◌-◌, ◌<◌, ◌≤◌}
-use lib.ListN.{length, length-replicate}
+use Prim.Native.Nat.{◌-◌}
+use lib.ListN.{length}
 use Rattle.rules.specs.Table.{decode}
-use Rattle.decl_visits.proofs.Loop.{Turn, loop-start, loop-end, loop-call, loop-turn}
+use Rattle.decl_visits.proofs.Loop.{Turn}
 use Rattle.decl_visits.proofs.visit_all.Given as goal
 
 abbrev pub invariant-loop-p : goal.invariant-loop-p

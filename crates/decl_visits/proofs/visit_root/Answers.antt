@@ -1,5 +1,4 @@
 -- `decl_visits::visit_root` meets its contract. Assumes nothing.
-use borrow.Author.Rules.{rules}
 use mathlib.Core.Path.{sym, ◌∙◌}
 use Rattle.rules.specs.Table.{decode}
 use Rattle.decl_visits.proofs.VisitReady.{follow-in, within-root, call-note, ret-follow, ret-wrong, ret-nowhere}
