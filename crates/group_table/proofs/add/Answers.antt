@@ -1,5 +1,4 @@
 -- `group_table::add` meets its contract. Assumes nothing.
-use borrow.Author.Rules.{rules}
 use Rattle.group_table.specs.Outputs.{added}
 use Rattle.group_table.proofs.add.Goals as goal
 

@@ -1,5 +1,4 @@
 -- `group_table::fit_after` meets its contract. Assumes nothing.
-use borrow.Author.Rules.{rules}
 use Rattle.group_table.specs.Outputs.{fit_after}
 use Rattle.group_table.proofs.fit_after.Goals as goal
 

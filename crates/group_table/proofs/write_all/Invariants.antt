@@ -1,13 +1,9 @@
 -- `group_table::write_all` meets its contract: what the records below d become is written. Assumes nothing.
-use borrow.Author.Rules.{rules}
-use native.Mathlib.Omega.{arith}
-use mathlib.Core.Path.{◌≡◌, sym, ◌∙◌}
-use mathlib.Core.Bool.{true}
-use Prim.Native.Nat.{◌+◌, ◌-◌, ◌<◌, ◌≤◌}
+use mathlib.Core.Path.{◌≡◌}
+use Prim.Native.Nat.{◌-◌, ◌≤◌}
 use lib.ListN.{length}
-use Rattle.rules.specs.Table.{decode, at}
-use Rattle.rules.specs.InlineGroups.{is_kept}
-use Rattle.group_table.proofs.Loop.{added-kept, Writing, write-start, write-other, call-first, call-rest, write-next, write-end}
+use Rattle.rules.specs.Table.{decode}
+use Rattle.group_table.proofs.Loop.{Writing}
 use Rattle.group_table.proofs.write_all.Given as goal
 
 abbrev pub invariant-loop-d : goal.invariant-loop-d
