@@ -1,0 +1,33 @@
+-- `inline_groups::inline_with` meets its contract: too many records, too few bytes for them, or the inlined table. Assumes nothing.
+use Rattle.inline_groups.proofs.Wholes.{ret-swollen, ret-buffer-short, ret-fits}
+use Rattle.inline_groups.proofs.inline_with.Goals as goal
+
+pub returns-then-n-gt-MOST_RECORDS : goal.returns-then-n-gt-MOST_RECORDS
+returns-then-n-gt-MOST_RECORDS c =
+    ret-swollen c.requires.groups_first c.fill.ensures c.measure.ensures (rw c.total-n.ensures at c.if-n-gt-MOST_RECORDS.true) c.args.out.now
+
+pub returns-then-out-n : goal.returns-then-out-n
+returns-then-out-n c =
+    let e = c.total-n.ensures in
+    ret-buffer-short c.requires.groups_first c.fill.ensures c.measure.ensures (rw e at c.if-n-gt-MOST_RECORDS.false) c.args.out.now (rw e at c.if-out-n.true)
+
+pub write_all-a-requires : goal.write_all-a-requires
+write_all-a-requires c =
+    let e = c.total-n.ensures in
+    record {
+      room_for_inlined = record {
+        few = c.requires.table_len_bound.0;
+        groups = c.requires.groups_first;
+        resolved = c.fill.ensures;
+        sized = c.measure.ensures;
+        stack = c.requires.table_len_bound.3;
+        wide = rw e at c.if-out-n.false;
+      };
+      table_bound = rw e at c.if-n-gt-MOST_RECORDS.false;
+    }
+
+pub returns : goal.returns
+returns c =
+    let e = c.total-n.ensures in
+    ret-fits c.requires.groups_first c.fill.ensures c.measure.ensures (rw e at c.if-n-gt-MOST_RECORDS.false) c.args.out.now (rw e at c.if-out-n.false)
+    c.write_all-a.ensures c.by_fit.ensures
