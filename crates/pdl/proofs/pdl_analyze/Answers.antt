@@ -7,14 +7,10 @@ use Rattle.rules.specs.Replies.{Answer, numbered, answered}
 use Rattle.rules.specs.declared.Reply.{Reply}
 use Rattle.pdl.specs.Numbers.{header_numbers}
 use Rattle.pdl.specs.Outputs.{outputs, header_answer}
-use Rattle.pdl.proofs.pdl_analyze.Statement.{statement}
-use Rattle.pdl.proofs.pdl_analyze.Tie as tie
+use Rattle.pdl.proofs.pdl_analyze.Goals as goal
 
 told : (r : Reply) (t f : List ℕ) {n : List ℕ} {a : Answer} → n ≡ header_numbers (numbered r) → answered r t f ≡ a → outputs n t f ≡ header_answer a
 told r t f e h = ap (λ (m : List ℕ). outputs m t f) e ∙ ap header_answer h
 
-returns : tie.Need-returns
-returns c = told c.before.before.before.before.before.analyze.result _ _ c.header-numbers.ensures c.before.before.before.before.before.analyze.ensures
-
-pub pdl-analyze-spec : {M : Type 1} → statement M
-pdl-analyze-spec = tie.close (tie.spec (λ c κs. search rules) (λ c κs. search rules) (λ c. search rules) (λ c. search rules) returns)
+pub returns : goal.returns
+returns c = told c.analyze.result _ _ c.header_numbers.ensures c.analyze.ensures
