@@ -1,5 +1,4 @@
 -- `accepted_table::write_large` meets its contract: with its buffer every table is written. Assumes nothing.
-use borrow.Author.Rules.{rules}
 use Prim.Native.Nat.{ℕ}
 use mathlib.Core.Path.{sym}
 use native.Mathlib.Nat.{le_of_eq}

@@ -1,5 +1,4 @@
 -- `accepted_table::write_listed` meets its contract: the small buffer is enough, or nothing was written yet. Assumes nothing.
-use borrow.Author.Rules.{rules}
 use Rattle.accepted_table.proofs.Laws.{wrote-done, wrote-again}
 use Rattle.accepted_table.proofs.write_listed.Goals as goal
 

@@ -1,5 +1,4 @@
 -- `accepted_table::write_table` meets its contract: the inlined table is read back from its bytes. Assumes nothing.
-use borrow.Author.Rules.{rules}
 use native.Mathlib.Omega.{arith}
 use mathlib.Core.Path.{sym}
 use Prim.Native.Nat.{◌*◌, ◌≤◌}

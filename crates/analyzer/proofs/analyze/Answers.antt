@@ -1,5 +1,4 @@
 -- `analyzer::analyze` meets its contract: a row of the layout, or the passes. Assumes nothing.
-use borrow.Author.Rules.{rules}
 use mathlib.Core.Path.{sym, ◌∙◌}
 use Rattle.rules.specs.Replies.{by_layout}
 use Rattle.analyzer.proofs.Laws.{layout-answer, sound-few}

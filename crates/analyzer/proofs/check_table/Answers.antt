@@ -1,5 +1,4 @@
 -- `analyzer::check_table` meets its contract: a table of more than 64 records has the large buffer. Assumes nothing.
-use borrow.Author.Rules.{rules}
 use native.Mathlib.Omega.{arith}
 use Rattle.analyzer.proofs.check_table.Goals as goal
 

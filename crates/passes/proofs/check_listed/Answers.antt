@@ -1,5 +1,4 @@
 -- `passes::check_listed` meets its contract: one of passes 3 to 9 finds faults, or they write nothing. Assumes nothing.
-use borrow.Author.Rules.{rules}
 use Rattle.rules.specs.Table.{decode}
 use Rattle.passes.proofs.Laws.{faulty-later, clean-later}
 use Rattle.passes.proofs.check_listed.Goals as goal

@@ -1,5 +1,4 @@
 -- `passes::check_order` meets its contract: pass 2 finds faults, or lists the table that the rest reads. Assumes nothing.
-use borrow.Author.Rules.{rules}
 use native.Mathlib.Omega.{arith}
 use mathlib.Core.Path.{sym}
 use Prim.Native.Nat.{◌≤◌}

@@ -1,5 +1,4 @@
 -- `pdl::pdl_analyze` meets its contract: the analyzer's reply as numbers, beside its bytes. Assumes nothing.
-use borrow.Author.Rules.{rules}
 use mathlib.Core.Path.{◌≡◌, ap, ◌∙◌}
 use mathlib.Core.List.{List}
 use Prim.Native.Nat.{ℕ}

@@ -1,5 +1,4 @@
 -- `pdl::header::header_numbers` meets its contract: each row's three numbers. Assumes nothing.
-use borrow.Author.Rules.{rules}
 use mathlib.Core.Path.{◌≡◌, sym, ap}
 use Rattle.rules.specs.Replies.{numbered}
 use Rattle.rules.specs.declared.Reply.{Reply}
