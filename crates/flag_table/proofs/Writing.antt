@@ -5,7 +5,7 @@ use mathlib.Core.List.{List, [], ◌∷◌, ◌++◌, append_assoc, append-nil}
 use native.Mathlib.Omega.{arith}
 use native.Mathlib.Nat.{add-zero}
 use lib.ListN.{length, take, length-append, take-append-drop}
-use Rattle.rules.specs.Bytes.{bytes, written}
+use Rattle.rules.specs.Bytes.{written}
 use Rattle.rules.specs.Table.{record_bytes, encode}
 use Rattle.rules.specs.declared.Record.{Record}
 use Rattle.store.proofs.Laws.{length-encode, length-written, written-more}

@@ -1,5 +1,4 @@
 -- `array_fields::redundant_size` meets its contract: each way out is a case of the definition. Assumes nothing.
-use borrow.Author.Rules.{rules}
 use mathlib.Core.Path.{sym, ◌∙◌}
 use Rattle.rules.specs.ArrayFields.{redundant_size}
 use Rattle.array_fields.proofs.redundant_size.Goals as goal

@@ -1,5 +1,4 @@
 -- `decl_order::check_decl_identifiers` meets its contract. Assumes nothing.
-use borrow.Author.Rules.{rules}
 use mathlib.Core.Path.{refl}
 use Rattle.declarations.proofs.starts.Laws.{starts_none}
 use Rattle.decl_order.proofs.check_decl_identifiers.Goals as goal

@@ -1,10 +1,9 @@
 -- `decl_order::copy_listed` meets its contract: the declarations at the first i places are copied. Assumes nothing.
-use borrow.Author.Rules.{rules}
 use native.Mathlib.Omega.{arith}
-use Prim.Native.Nat.{ℕ, ◌+◌, ◌-◌}
+use Prim.Native.Nat.{ℕ, ◌+◌}
 use mathlib.Core.Path.{ap}
 use Rattle.table.proofs.Laws.{length-decode}
-use Rattle.decl_order.proofs.Copies.{Copied, copy_start, place_at, copy-call, copied-long, copy-turn, copy-end}
+use Rattle.decl_order.proofs.Copies.{copy_start, place_at, copy-call, copied-long, copy-turn, copy-end}
 use Rattle.decl_order.proofs.copy_listed.Goals as goal
 
 pub loop-i-init : goal.loop-i-init

@@ -1,10 +1,6 @@
 -- `decl_order::copy_listed` meets its contract: the declarations at the first i places are copied. Assumes nothing.
-use borrow.Author.Rules.{rules}
-use native.Mathlib.Omega.{arith}
-use Prim.Native.Nat.{ℕ, ◌+◌, ◌-◌}
-use mathlib.Core.Path.{ap}
-use Rattle.table.proofs.Laws.{length-decode}
-use Rattle.decl_order.proofs.Copies.{Copied, copy_start, place_at, copy-call, copied-long, copy-turn, copy-end}
+use Prim.Native.Nat.{◌-◌}
+use Rattle.decl_order.proofs.Copies.{Copied}
 use Rattle.decl_order.proofs.copy_listed.Given as goal
 
 abbrev pub invariant-loop-i : goal.invariant-loop-i

@@ -1,5 +1,4 @@
 -- `decl_order::order_from` meets its contract. Assumes nothing.
-use borrow.Author.Rules.{rules}
 use Rattle.decl_order.proofs.Checks.{part-zeros}
 use Rattle.decl_order.proofs.order_from.Goals as goal
 

@@ -1,5 +1,4 @@
 -- `decl_order::order_with` meets its contract. Assumes nothing.
-use borrow.Author.Rules.{rules}
 use Rattle.decl_order.proofs.Checks.{ret-faulty, call-copy, ret-copied}
 use Rattle.decl_order.proofs.order_with.Goals as goal
 

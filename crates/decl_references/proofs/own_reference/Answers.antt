@@ -1,5 +1,4 @@
 -- `decl_references::own_reference` meets its contract. Assumes nothing.
-use borrow.Author.Rules.{rules}
 use mathlib.Core.Path.{◌∙◌}
 use Rattle.decl_references.proofs.Refers.{own-parent, own-nowhere}
 use Rattle.decl_references.proofs.own_reference.Goals as goal

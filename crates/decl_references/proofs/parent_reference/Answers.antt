@@ -1,5 +1,4 @@
 -- `decl_references::parent_reference` meets its contract. Assumes nothing.
-use borrow.Author.Rules.{rules}
 use borrow.Author.Tests.{eq-eqb, ne_eqb}
 use Rattle.rules.specs.DeclIdentifiers.{parent_reference}
 use Rattle.decl_references.proofs.parent_reference.Goals as goal

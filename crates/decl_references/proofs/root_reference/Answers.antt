@@ -1,5 +1,4 @@
 -- `decl_references::root_reference` meets its contract. Assumes nothing.
-use borrow.Author.Rules.{rules}
 use mathlib.Core.Path.{sym, ◌∙◌}
 use Rattle.decl_references.proofs.Refers.{root-decl, root-test, root-nowhere}
 use Rattle.decl_references.proofs.root_reference.Goals as goal

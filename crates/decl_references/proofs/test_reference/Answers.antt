@@ -1,5 +1,4 @@
 -- `decl_references::test_reference` meets its contract. Assumes nothing.
-use borrow.Author.Rules.{rules}
 use borrow.Author.Tests.{eq-eqb, ne_eqb}
 use Rattle.rules.specs.DeclIdentifiers.{test_reference}
 use Rattle.decl_references.proofs.test_reference.Goals as goal

@@ -1,5 +1,4 @@
 -- `declarations::decl_named` meets its contract. Assumes nothing.
-use borrow.Author.Rules.{rules}
 use mathlib.Core.Path.{◌∙◌}
 use Rattle.declarations.proofs.Laws.{named-from}
 use Rattle.declarations.proofs.decl_named.Goals as goal

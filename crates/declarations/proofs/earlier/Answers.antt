@@ -1,5 +1,4 @@
 -- `declarations::earlier` meets its contract. Assumes nothing.
-use borrow.Author.Rules.{rules}
 use borrow.Author.Tests.{eqb-true, ltb-true}
 use mathlib.Core.Path.{sym, ◌∙◌}
 use Rattle.table.proofs.Searches.{and-true}

@@ -1,5 +1,4 @@
 -- `declarations::start` meets its contract. Assumes nothing.
-use borrow.Author.Rules.{rules}
 use mir.Facts.{Fits-widen}
 use mathlib.Core.Path.{sym}
 use lib.ListN.{get_or-eq_default}

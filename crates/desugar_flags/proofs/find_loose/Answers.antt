@@ -1,11 +1,5 @@
 -- `desugar_flags::find_loose` meets its contract. Assumes nothing.
-use borrow.Author.Rules.{rules}
-use mathlib.Core.Path.{◌≡◌, refl, sym, ◌∙◌}
-use Prim.Native.Nat.{◌-◌}
-use lib.ListN.{length}
-use Rattle.rules.specs.Table.{decode}
-use Rattle.rules.specs.Places.{first}
-use Rattle.rules.specs.DesugarFlags.{loose_at}
+use mathlib.Core.Path.{refl, sym, ◌∙◌}
 use Rattle.table.proofs.Laws.{up-hit, up-miss, up-end}
 use Rattle.desugar_flags.proofs.Laws.{loose-is}
 use Rattle.desugar_flags.proofs.find_loose.Goals as goal

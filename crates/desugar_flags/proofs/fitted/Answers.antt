@@ -1,5 +1,4 @@
 -- `desugar_flags::fitted` meets its contract. Assumes nothing.
-use borrow.Author.Rules.{rules}
 use Rattle.desugar_flags.proofs.Laws.{reply-over, reply-short, reply-accepted, room-all}
 use Rattle.desugar_flags.proofs.fitted.Goals as goal
 

@@ -1,8 +1,8 @@
 -- `enum_bounds::at_least` meets its contract: after j turns the first j numbers are counted. Assumes nothing.
 use borrow.Author.Rules.{rules}
 use native.Mathlib.Nat.{le_antisymm}
-use Prim.Native.Nat.{ℕ, ◌-◌, ◌≤◌}
-use mathlib.Core.Path.{◌≡◌, ap, ◌∙◌}
+use Prim.Native.Nat.{ℕ}
+use mathlib.Core.Path.{ap, ◌∙◌}
 use lib.Dec.{leb}
 use lib.ListN.{take}
 use Rattle.enum_bounds.specs.Bounds.{count_of}

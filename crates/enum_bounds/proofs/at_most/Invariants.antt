@@ -1,11 +1,8 @@
 -- `enum_bounds::at_most` meets its contract: those below `low` are at most v, those from `high` on are not. Assumes nothing.
-use borrow.Author.Rules.{rules}
 use Prim.Native.Nat.{◌-◌, ◌≤◌}
 use lib.Dec.{leb}
 use lib.ListN.{take}
-use borrow.Author.Tests.{le-leb, lt-leb}
 use Rattle.enum_bounds.specs.Order.{Split}
-use Rattle.enum_bounds.proofs.Splits.{split-start, split-up, split-down, split-end, leb-trans}
 use Rattle.enum_bounds.proofs.at_most.Given as goal
 
 abbrev pub invariant-loop-low : goal.invariant-loop-low

@@ -1,12 +1,10 @@
 -- `enum_bounds::fill` meets its contract: after j turns the bounds of the first j ranges are there. Assumes nothing.
 use borrow.Author.Rules.{rules}
 use native.Mathlib.Omega.{arith}
-use Prim.Native.Nat.{◌-◌, ◌≤◌}
 use mathlib.Core.Path.{◌≡◌, refl}
-use lib.ListN.{length, take, length-set}
+use lib.ListN.{length-set}
 use Rattle.rules.specs.Table.{decode, at}
 use Rattle.rules.specs.EnumDeclarations.{lesser, greater}
-use Rattle.enum_bounds.specs.Bounds.{lows_of, highs_of}
 use Rattle.enum_bounds.proofs.Counts.{bounds-more}
 use Rattle.enum_bounds.proofs.fill.Goals as goal
 

@@ -1,13 +1,9 @@
 -- `enum_bounds::fill` meets its contract: after j turns the bounds of the first j ranges are there. Assumes nothing.
-use borrow.Author.Rules.{rules}
-use native.Mathlib.Omega.{arith}
 use Prim.Native.Nat.{◌-◌, ◌≤◌}
-use mathlib.Core.Path.{◌≡◌, refl}
-use lib.ListN.{length, take, length-set}
-use Rattle.rules.specs.Table.{decode, at}
-use Rattle.rules.specs.EnumDeclarations.{lesser, greater}
+use mathlib.Core.Path.{◌≡◌}
+use lib.ListN.{length, take}
+use Rattle.rules.specs.Table.{decode}
 use Rattle.enum_bounds.specs.Bounds.{lows_of, highs_of}
-use Rattle.enum_bounds.proofs.Counts.{bounds-more}
 use Rattle.enum_bounds.proofs.fill.Given as goal
 
 abbrev pub invariant-loop-j : goal.invariant-loop-j

@@ -1,6 +1,4 @@
 -- `enum_declarations::check_enum_declarations` meets its contract. Assumes nothing.
-use borrow.Author.Rules.{rules}
-use borrow.Author.Tests.{not-true}
 use mathlib.Core.Path.{◌∙◌}
 use Rattle.faults.proofs.Laws.{noted-none, noted-logged}
 use Rattle.enum_declarations.proofs.check_enum_declarations.Goals as goal

@@ -1,10 +1,8 @@
 -- `enum_declarations::has_enum` meets its contract: the places below d have no fault. Assumes nothing.
 use borrow.Author.Rules.{rules}
 use native.Mathlib.Nat.{le_antisymm}
-use Prim.Native.Nat.{ℕ, ◌-◌, ◌≤◌}
-use mathlib.Core.Path.{◌≡◌, refl, sym, ap, ◌∙◌}
-use mathlib.Core.List.{[]}
-use lib.ListN.{length}
+use Prim.Native.Nat.{ℕ}
+use mathlib.Core.Path.{refl, sym, ap, ◌∙◌}
 use Rattle.rules.specs.Table.{decode}
 use Rattle.rules.specs.Places.{each}
 use Rattle.rules.specs.EnumDeclarations.{pass4_at, pass4}

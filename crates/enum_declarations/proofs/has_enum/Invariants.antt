@@ -1,15 +1,11 @@
 -- `enum_declarations::has_enum` meets its contract: the places below d have no fault. Assumes nothing.
-use borrow.Author.Rules.{rules}
-use native.Mathlib.Nat.{le_antisymm}
-use Prim.Native.Nat.{ℕ, ◌-◌, ◌≤◌}
-use mathlib.Core.Path.{◌≡◌, refl, sym, ap, ◌∙◌}
+use Prim.Native.Nat.{◌-◌, ◌≤◌}
+use mathlib.Core.Path.{◌≡◌}
 use mathlib.Core.List.{[]}
 use lib.ListN.{length}
 use Rattle.rules.specs.Table.{decode}
 use Rattle.rules.specs.Places.{each}
-use Rattle.rules.specs.EnumDeclarations.{pass4_at, pass4}
-use Rattle.enum_bounds.proofs.Splits.{clash}
-use Rattle.enum_declarations.proofs.Laws.{none-start, none_more}
+use Rattle.rules.specs.EnumDeclarations.{pass4_at}
 use Rattle.enum_declarations.proofs.has_enum.Given as goal
 
 abbrev pub invariant-loop-d : goal.invariant-loop-d

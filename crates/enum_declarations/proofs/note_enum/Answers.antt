@@ -1,5 +1,4 @@
 -- `enum_declarations::note_enum` meets its contract. Assumes nothing.
-use borrow.Author.Rules.{rules}
 use native.Mathlib.Omega.{arith}
 use Rattle.rules.specs.Table.{decode}
 use Rattle.rules.specs.EnumDeclarations.{tags_faults, enum_faults}

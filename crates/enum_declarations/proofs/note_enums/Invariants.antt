@@ -1,16 +1,12 @@
 -- `enum_declarations::note_enums` meets its contract: after d turns the faults of the places below d are noted. Assumes nothing.
-use borrow.Author.Rules.{rules}
-use native.Mathlib.Omega.{arith}
 use Prim.Native.Nat.{◌-◌, ◌≤◌}
-use mathlib.Core.Path.{◌≡◌, refl, ◌∙◌}
+use mathlib.Core.Path.{◌≡◌}
 use lib.ListN.{length}
 use Rattle.rules.specs.Table.{decode}
 use Rattle.rules.specs.Places.{each}
 use Rattle.rules.specs.Faults.{log}
-use Rattle.rules.specs.EnumDeclarations.{pass4_at, pass4}
+use Rattle.rules.specs.EnumDeclarations.{pass4_at}
 use Rattle.faults.specs.Notes.{no_faults, noted_all}
-use Rattle.faults.proofs.Laws.{noted-start, noted-place, noted-end, noted-logged, each-total}
-use Rattle.enum_declarations.proofs.Laws.{place-few}
 use Rattle.enum_declarations.proofs.note_enums.Given as goal
 
 abbrev pub invariant-loop-d : goal.invariant-loop-d

@@ -1,5 +1,4 @@
 -- `enum_declarations::note_place` meets its contract. Assumes nothing.
-use borrow.Author.Rules.{rules}
 use native.Mathlib.Omega.{arith}
 use borrow.Author.Tests.{eq-eqb, ne_eqb}
 use Rattle.rules.specs.EnumDeclarations.{pass4_at}

@@ -2,14 +2,10 @@
 use borrow.Author.Rules.{rules}
 use native.Mathlib.Omega.{arith}
 use native.Mathlib.Nat.{add-zero, add_assoc}
-use Prim.Native.Nat.{ℕ, ◌+◌, ◌-◌, ◌≤◌}
-use mathlib.Core.Path.{◌≡◌, refl, sym, ap, ◌∙◌}
-use lib.ListN.{length}
+use Prim.Native.Nat.{ℕ, ◌+◌}
+use mathlib.Core.Path.{refl, sym, ap, ◌∙◌}
 use Rattle.rules.specs.Table.{decode}
-use Rattle.rules.specs.Places.{each}
-use Rattle.rules.specs.Faults.{log}
-use Rattle.rules.specs.EnumDeclarations.{tag_faults, tags_faults}
-use Rattle.faults.specs.Notes.{noted_all}
+use Rattle.rules.specs.EnumDeclarations.{tags_faults}
 use Rattle.faults.proofs.Laws.{noted-start, noted-place, noted-end, each-total}
 use Rattle.enum_tags.specs.Before.{range_before}
 use Rattle.enum_tags.proofs.Laws.{tag-few}

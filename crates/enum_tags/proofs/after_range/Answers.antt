@@ -1,5 +1,4 @@
 -- `enum_tags::after_range` meets its contract. Assumes nothing.
-use borrow.Author.Rules.{rules}
 use mathlib.Core.Path.{◌∙◌}
 use Rattle.rules.specs.Table.{decode}
 use Rattle.enum_tags.proofs.Laws.{before-range}

@@ -1,5 +1,4 @@
 -- `enum_tags::note_default` meets its contract. Assumes nothing.
-use borrow.Author.Rules.{rules}
 use mathlib.Core.List.{append-nil}
 use Rattle.rules.specs.EnumDeclarations.{default_faults}
 use Rattle.enum_tags.proofs.note_default.Goals as goal

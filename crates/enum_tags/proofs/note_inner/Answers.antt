@@ -1,5 +1,4 @@
 -- `enum_tags::note_inner` meets its contract. Assumes nothing.
-use borrow.Author.Rules.{rules}
 use Rattle.rules.specs.EnumDeclarations.{inner_faults}
 use Rattle.enum_tags.proofs.note_inner.Goals as goal
 

@@ -1,5 +1,4 @@
 -- `enum_tags::note_range` meets its contract. Assumes nothing.
-use borrow.Author.Rules.{rules}
 use mathlib.Core.Path.{◌∙◌}
 use Rattle.rules.specs.EnumDeclarations.{range_faults}
 use Rattle.enum_tags.proofs.note_range.Goals as goal

@@ -1,5 +1,4 @@
 -- `enum_tags::note_three` meets its contract: three lists one after the other. Assumes nothing.
-use borrow.Author.Rules.{rules}
 use native.Mathlib.Omega.{arith}
 use Rattle.faults.specs.Notes.{findings}
 use Rattle.faults.proofs.Laws.{noted-then, total-after, findings-few}

@@ -1,14 +1,11 @@
 -- `enum_tags::note_times` meets its contract: after j turns the fault is noted j times. Assumes nothing.
-use borrow.Author.Rules.{rules}
-use native.Mathlib.Omega.{arith}
 use Prim.Native.Nat.{◌-◌, ◌≤◌}
-use mathlib.Core.Path.{◌≡◌, refl}
+use mathlib.Core.Path.{◌≡◌}
 use mathlib.Core.List.{[], ◌∷◌}
 use lib.ListN.{length}
 use Rattle.rules.specs.Places.{each}
 use Rattle.rules.specs.Faults.{log}
 use Rattle.faults.specs.Notes.{noted_all}
-use Rattle.faults.proofs.Laws.{noted-start, noted-place, noted-end, each-total}
 use Rattle.enum_tags.proofs.note_times.Given as goal
 
 abbrev pub invariant-loop-j : goal.invariant-loop-j

@@ -1,5 +1,4 @@
 -- `enum_tags::note_value` meets its contract. Assumes nothing.
-use borrow.Author.Rules.{rules}
 use Rattle.rules.specs.EnumDeclarations.{value_faults}
 use Rattle.enum_tags.proofs.note_value.Goals as goal
 

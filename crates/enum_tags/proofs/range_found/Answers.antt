@@ -1,5 +1,4 @@
 -- `enum_tags::range_found` meets its contract. Assumes nothing.
-use borrow.Author.Rules.{rules}
 use Rattle.rules.specs.EnumDeclarations.{range_found}
 use Rattle.enum_tags.proofs.range_found.Goals as goal
 

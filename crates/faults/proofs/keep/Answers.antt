@@ -1,5 +1,4 @@
 -- `faults::keep` meets its contract. Assumes nothing.
-use borrow.Author.Rules.{rules}
 use mathlib.Core.Path.{sym}
 use Rattle.faults.specs.Notes.{tallied}
 use Rattle.faults.proofs.Laws.{noted-kept, noted-full}

@@ -1,6 +1,4 @@
 -- `field_identifiers::at_place` meets its contract. Assumes nothing.
-use borrow.Author.Rules.{rules}
-use borrow.Author.Tests.{not-true, not-false}
 use mathlib.Core.Path.{sym, ◌∙◌}
 use Rattle.rules.specs.EnumDeclarations.{again}
 use Rattle.rules.specs.FieldIdentifiers.{pass3_at}

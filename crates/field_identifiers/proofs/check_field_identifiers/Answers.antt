@@ -2,15 +2,9 @@
 -- Assumes nothing.
 use borrow.Author.Rules.{rules}
 use native.Mathlib.Omega.{arith}
-use Prim.Native.Nat.{◌-◌, ◌≤◌}
-use mathlib.Core.Path.{◌≡◌, refl, ap, ◌∙◌}
-use lib.ListN.{length}
-use Rattle.rules.specs.Table.{decode}
-use Rattle.rules.specs.Places.{each}
-use Rattle.rules.specs.Faults.{log}
-use Rattle.rules.specs.FieldIdentifiers.{pass3_at, pass3}
+use mathlib.Core.Path.{refl, ap, ◌∙◌}
+use Rattle.rules.specs.FieldIdentifiers.{pass3}
 use Rattle.rules.specs.declared.Tally.{Tally}
-use Rattle.faults.specs.Notes.{no_faults, noted_all}
 use Rattle.faults.proofs.Laws.{noted-start, noted-place, noted-end, noted-logged}
 use Rattle.table.proofs.Laws.{length-decode}
 use Rattle.field_identifiers.proofs.check_field_identifiers.Goals as goal

@@ -1,6 +1,4 @@
 -- `field_identifiers::note_at` meets its contract. Assumes nothing.
-use borrow.Author.Rules.{rules}
-use borrow.Author.Tests.{not-true}
 use native.Mathlib.Omega.{arith}
 use mathlib.Core.Path.{ap, ◌∙◌}
 use Rattle.rules.specs.Table.{decode}

@@ -1,5 +1,4 @@
 -- `fixed_fields::at_place` meets its contract. Assumes nothing.
-use borrow.Author.Rules.{rules}
 use borrow.Author.Tests.{eq-eqb, ne_eqb}
 use Rattle.rules.specs.FixedFields.{pass6_at}
 use Rattle.fixed_fields.proofs.at_place.Goals as goal

@@ -1,5 +1,4 @@
 -- `flag_sizes::count_condition` meets its contract. Assumes nothing.
-use borrow.Author.Rules.{rules}
 use mathlib.Core.Path.{sym, ap, ◌∙◌}
 use lib.ListN.{length}
 use Rattle.flag_sizes.proofs.Laws.{condition-there, condition-none}

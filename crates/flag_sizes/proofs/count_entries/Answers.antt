@@ -2,11 +2,10 @@
 use borrow.Author.Rules.{rules}
 use mathlib.Core.Path.{◌≡◌, sym, ap, ◌∙◌}
 use mathlib.Core.Bool.{false}
-use Prim.Native.Nat.{◌+◌, ◌-◌, ◌<◌, ◌≤◌}
+use Prim.Native.Nat.{◌<◌, ◌≤◌}
 use lib.ListN.{length}
 use Rattle.rules.specs.Kinds.{is_decl}
 use Rattle.rules.specs.Table.{decode, at}
-use Rattle.rules.specs.DesugarFlags.{entries_from}
 use native.Mathlib.Omega.{arith}
 use Rattle.flag_sizes.proofs.Laws.{entries-decl, entries-end, entries-hit, entries-miss}
 use Rattle.flag_sizes.proofs.count_entries.Goals as goal

@@ -1,14 +1,9 @@
 -- `flag_sizes::count_entries` meets its contract. Assumes nothing.
-use borrow.Author.Rules.{rules}
-use mathlib.Core.Path.{◌≡◌, sym, ap, ◌∙◌}
-use mathlib.Core.Bool.{false}
-use Prim.Native.Nat.{◌+◌, ◌-◌, ◌<◌, ◌≤◌}
+use mathlib.Core.Path.{◌≡◌}
+use Prim.Native.Nat.{◌+◌, ◌-◌, ◌≤◌}
 use lib.ListN.{length}
-use Rattle.rules.specs.Kinds.{is_decl}
-use Rattle.rules.specs.Table.{decode, at}
+use Rattle.rules.specs.Table.{decode}
 use Rattle.rules.specs.DesugarFlags.{entries_from}
-use native.Mathlib.Omega.{arith}
-use Rattle.flag_sizes.proofs.Laws.{entries-decl, entries-end, entries-hit, entries-miss}
 use Rattle.flag_sizes.proofs.count_entries.Given as goal
 
 abbrev pub invariant-loop-p : goal.invariant-loop-p

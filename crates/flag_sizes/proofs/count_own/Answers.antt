@@ -1,10 +1,9 @@
 -- `flag_sizes::count_own` meets its contract. Assumes nothing.
 use borrow.Author.Rules.{rules}
-use mathlib.Core.Path.{◌≡◌, sym, ap, ◌∙◌}
-use Prim.Native.Nat.{◌+◌, ◌-◌, ◌<◌, ◌≤◌}
+use mathlib.Core.Path.{sym, ap, ◌∙◌}
+use Prim.Native.Nat.{◌<◌, ◌≤◌}
 use lib.ListN.{length}
 use Rattle.rules.specs.Table.{decode}
-use Rattle.rules.specs.DesugarFlags.{entries_at}
 use native.Mathlib.Omega.{arith}
 use Rattle.flag_sizes.proofs.Laws.{own-end, own-other, own-hit}
 use Rattle.flag_sizes.proofs.count_own.Goals as goal

@@ -1,11 +1,8 @@
 -- `flag_sizes::mark_conditions` meets its contract. Assumes nothing.
 use borrow.Author.Rules.{rules}
-use mathlib.Core.Path.{◌≡◌, refl, sym, ◌∙◌}
-use Prim.Native.Nat.{◌-◌}
-use lib.ListN.{length}
-use Rattle.rules.specs.Table.{decode}
+use mathlib.Core.Path.{refl, sym, ◌∙◌}
 use native.Mathlib.Omega.{arith}
-use Rattle.flag_sizes.proofs.Marks.{Stamping, stamping-start, stamping-decl, stamping-end, stamping-other, stamping-one}
+use Rattle.flag_sizes.proofs.Marks.{stamping-start, stamping-decl, stamping-end, stamping-other, stamping-one}
 use Rattle.flag_sizes.proofs.mark_conditions.Goals as goal
 
 pub loop-p-init : goal.loop-p-init

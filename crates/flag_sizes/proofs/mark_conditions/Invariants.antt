@@ -1,11 +1,9 @@
 -- `flag_sizes::mark_conditions` meets its contract. Assumes nothing.
-use borrow.Author.Rules.{rules}
-use mathlib.Core.Path.{◌≡◌, refl, sym, ◌∙◌}
+use mathlib.Core.Path.{◌≡◌}
 use Prim.Native.Nat.{◌-◌}
 use lib.ListN.{length}
 use Rattle.rules.specs.Table.{decode}
-use native.Mathlib.Omega.{arith}
-use Rattle.flag_sizes.proofs.Marks.{Stamping, stamping-start, stamping-decl, stamping-end, stamping-other, stamping-one}
+use Rattle.flag_sizes.proofs.Marks.{Stamping}
 use Rattle.flag_sizes.proofs.mark_conditions.Given as goal
 
 abbrev pub invariant-loop-p : goal.invariant-loop-p

@@ -2,12 +2,10 @@
 use borrow.Author.Rules.{rules}
 use native.Mathlib.Omega.{arith}
 use mathlib.Core.Path.{◌≡◌, sym, ◌∙◌}
-use Prim.Native.Nat.{◌+◌, ◌-◌, ◌≤◌}
+use Prim.Native.Nat.{◌+◌}
 use lib.ListN.{length}
 use Rattle.rules.specs.Table.{decode, at}
-use Rattle.rules.specs.DesugarFlags.{members_start}
-use Rattle.flag_sizes.specs.Counts.{ConditionsStamped, Counted}
-use Rattle.flag_sizes.proofs.Laws.{of-few, start-bound, size_below, size-zero, size-more, size_few, size-all}
+use Rattle.flag_sizes.proofs.Laws.{of-few, start-bound, size-zero, size-more, size_few, size-all}
 use Rattle.flag_sizes.proofs.Marks.{counted_start, counted-one, counted-all}
 use Rattle.flag_sizes.proofs.total.Goals as goal
 

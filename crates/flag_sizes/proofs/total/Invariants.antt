@@ -1,14 +1,11 @@
 -- `flag_sizes::total` meets its contract. Assumes nothing.
-use borrow.Author.Rules.{rules}
-use native.Mathlib.Omega.{arith}
-use mathlib.Core.Path.{◌≡◌, sym, ◌∙◌}
-use Prim.Native.Nat.{◌+◌, ◌-◌, ◌≤◌}
+use mathlib.Core.Path.{◌≡◌}
+use Prim.Native.Nat.{◌-◌, ◌≤◌}
 use lib.ListN.{length}
-use Rattle.rules.specs.Table.{decode, at}
+use Rattle.rules.specs.Table.{decode}
 use Rattle.rules.specs.DesugarFlags.{members_start}
 use Rattle.flag_sizes.specs.Counts.{ConditionsStamped, Counted}
-use Rattle.flag_sizes.proofs.Laws.{of-few, start-bound, size_below, size-zero, size-more, size_few, size-all}
-use Rattle.flag_sizes.proofs.Marks.{counted_start, counted-one, counted-all}
+use Rattle.flag_sizes.proofs.Laws.{size_below}
 use Rattle.flag_sizes.proofs.total.Given as goal
 
 abbrev pub invariant-loop-p : goal.invariant-loop-p

@@ -1,5 +1,4 @@
 -- `flag_table::append` meets its contract. Assumes nothing.
-use borrow.Author.Rules.{rules}
 use Rattle.flag_table.proofs.Writing.{appended_one}
 use Rattle.flag_table.proofs.append.Goals as goal
 

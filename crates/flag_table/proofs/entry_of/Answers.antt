@@ -1,5 +1,4 @@
 -- `flag_table::entry_of` meets its contract. Assumes nothing.
-use borrow.Author.Rules.{rules}
 use mathlib.Core.Path.{◌∙◌}
 use Rattle.rules.specs.Table.{decode}
 use Rattle.flag_table.proofs.Laws.{entry-as}

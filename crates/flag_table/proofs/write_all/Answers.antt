@@ -1,11 +1,7 @@
 -- `flag_table::write_all` meets its contract. Assumes nothing.
 use borrow.Author.Rules.{rules}
 use native.Mathlib.Omega.{arith}
-use mathlib.Core.Path.{◌≡◌}
-use Prim.Native.Nat.{◌-◌, ◌≤◌}
-use lib.ListN.{length}
-use Rattle.rules.specs.Table.{decode}
-use Rattle.flag_table.proofs.Laws.{Filled, filled-start, filled-long, filled-end, filled-room, filled_next}
+use Rattle.flag_table.proofs.Laws.{filled-start, filled-long, filled-end, filled-room, filled_next}
 use Rattle.flag_table.proofs.write_all.Goals as goal
 
 pub loop-p-init : goal.loop-p-init

@@ -1,5 +1,4 @@
 -- `flag_table::write_at` meets its contract. Assumes nothing.
-use borrow.Author.Rules.{rules}
 use native.Mathlib.Omega.{arith}
 use mathlib.Core.Path.{sym, ◌∙◌}
 use Rattle.flag_sizes.proofs.Laws.{desugared-gone, desugared-plain, desugared-flag}

@@ -1,15 +1,8 @@
 -- `flag_table::write_entries` meets its contract. Assumes nothing.
-use borrow.Author.Rules.{rules}
-use mathlib.Core.Path.{◌≡◌, sym, ◌∙◌}
-use mathlib.Core.Bool.{false}
-use Prim.Native.Nat.{◌-◌, ◌<◌}
-use lib.ListN.{length}
-use Rattle.rules.specs.Kinds.{is_decl}
-use Rattle.rules.specs.Table.{decode, at}
-use Rattle.rules.specs.DesugarFlags.{entries_from}
+use mathlib.Core.Path.{sym, ◌∙◌}
 use native.Mathlib.Omega.{arith}
 use Rattle.flag_sizes.proofs.Laws.{entries-decl, entries-end, entries-hit, entries-miss}
-use Rattle.flag_table.proofs.Writing.{Progress, progress_start, progress-end, progress-same, progress-long, progress-room, progress-one}
+use Rattle.flag_table.proofs.Writing.{progress_start, progress-end, progress-same, progress-long, progress-room, progress-one}
 use Rattle.flag_table.proofs.write_entries.Goals as goal
 
 pub loop-p-init : goal.loop-p-init

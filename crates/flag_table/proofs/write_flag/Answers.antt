@@ -1,5 +1,4 @@
 -- `flag_table::write_flag` meets its contract. Assumes nothing.
-use borrow.Author.Rules.{rules}
 use Prim.Native.Nat.{◌+◌}
 use mathlib.Core.List.{◌∷◌}
 use Rattle.rules.specs.Table.{decode}

@@ -1,5 +1,4 @@
 -- `flag_table::write_head` meets its contract. Assumes nothing.
-use borrow.Author.Rules.{rules}
 use mathlib.Core.Path.{sym}
 use Rattle.flag_sizes.proofs.Laws.{condition-none, condition-is}
 use Rattle.flag_table.proofs.Writing.{appended-as, room_as, room-front, room-rest, appended_then}

@@ -1,13 +1,10 @@
 -- `flag_table::write_own` meets its contract. Assumes nothing.
-use borrow.Author.Rules.{rules}
 use mathlib.Core.Path.{◌≡◌}
 use Prim.Native.Nat.{◌-◌}
 use lib.ListN.{length}
 use Rattle.rules.specs.Table.{decode}
 use Rattle.rules.specs.DesugarFlags.{entries_at}
-use native.Mathlib.Omega.{arith}
-use Rattle.flag_sizes.proofs.Laws.{own-end, own-other, own-hit}
-use Rattle.flag_table.proofs.Writing.{Progress, progress_start, progress-end, progress-long, progress-room, progress-one}
+use Rattle.flag_table.proofs.Writing.{Progress}
 use Rattle.flag_table.proofs.write_own.Given as goal
 
 abbrev pub invariant-loop-p : goal.invariant-loop-p

@@ -1,5 +1,4 @@
 -- `group_constraints::inlined_record` meets its contract. Assumes nothing.
-use borrow.Author.Rules.{rules}
 use mathlib.Core.Path.{◌∙◌}
 use Rattle.group_constraints.proofs.Laws.{scalar-fixed, scalar-free, enum_fixed, enum-free, other-kept}
 use Rattle.group_constraints.proofs.inlined_record.Goals as goal

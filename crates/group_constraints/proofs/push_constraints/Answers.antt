@@ -1,11 +1,7 @@
 -- `group_constraints::push_constraints` meets its contract: the stack, and the constraints still to come. Assumes nothing.
-use borrow.Author.Rules.{rules}
 use native.Mathlib.Omega.{arith}
-use Prim.Native.Nat.{◌<◌, ◌-◌}
-use mathlib.Core.Path.{◌≡◌, sym, ◌∙◌}
-use lib.ListN.{length}
-use Rattle.rules.specs.Table.{decode}
-use Rattle.group_constraints.proofs.Laws.{Pushing, push-start, push-fits, push-one, push-none, push-stop, push-end}
+use mathlib.Core.Path.{sym, ◌∙◌}
+use Rattle.group_constraints.proofs.Laws.{push-start, push-fits, push-one, push-none, push-stop, push-end}
 use Rattle.group_constraints.proofs.push_constraints.Goals as goal
 
 pub bounds-env-m : goal.bounds-env-m

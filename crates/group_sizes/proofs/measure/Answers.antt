@@ -1,13 +1,8 @@
 -- `group_sizes::measure` meets its contract: the sizes below d are right. Assumes nothing.
 use borrow.Author.Rules.{rules}
 use native.Mathlib.Omega.{arith}
-use mathlib.Core.Path.{◌≡◌, refl, sym, ◌∙◌}
-use mathlib.Core.Bool.{true}
-use Prim.Native.Nat.{◌-◌, ◌≤◌, ◌<◌}
-use lib.ListN.{length, length-set}
-use Rattle.rules.specs.Table.{decode, at}
-use Rattle.rules.specs.Kinds.{is_decl}
-use Rattle.group_sizes.specs.Sizes.{Sized}
+use mathlib.Core.Path.{refl, sym, ◌∙◌}
+use lib.ListN.{length-set}
 use Rattle.group_sizes.proofs.Measures.{sized-start, sized-next, sized-other, sized-end}
 use Rattle.group_sizes.proofs.measure.Goals as goal
 

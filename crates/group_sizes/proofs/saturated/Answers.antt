@@ -1,5 +1,4 @@
 -- `group_sizes::saturated` meets its contract. Assumes nothing.
-use borrow.Author.Rules.{rules}
 use native.Mathlib.Omega.{arith}
 use Rattle.group_sizes.proofs.saturated.Goals as goal
 

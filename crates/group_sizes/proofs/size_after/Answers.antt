@@ -1,13 +1,10 @@
 -- `group_sizes::size_after` meets its contract: what is counted and what is left make the whole. Assumes nothing.
-use borrow.Author.Rules.{rules}
 use native.Mathlib.Omega.{arith}
-use mathlib.Core.Path.{◌≡◌, sym, ◌∙◌}
+use mathlib.Core.Path.{sym, ◌∙◌}
 use mathlib.Core.Logic.{inl, inr}
-use Prim.Native.Nat.{◌-◌}
-use lib.ListN.{length}
 use Rattle.rules.specs.Table.{decode}
 use Rattle.group_sizes.proofs.Fields.{Seen}
-use Rattle.group_sizes.proofs.Measures.{Sizing, sizing-start, sizing-next, sizing-end, target-in}
+use Rattle.group_sizes.proofs.Measures.{sizing-start, sizing-next, sizing-end, target-in}
 use Rattle.group_sizes.proofs.size_after.Goals as goal
 
 pub loop-p-init : goal.loop-p-init
@@ -22,12 +19,12 @@ pub size_here-x-requires : goal.size_here-x-requires
 size_here-x-requires c =
     let e = c.kind-k.ensures in
     let h : Seen (decode c.args.table.now) c.loop-p.p c.kind-k.result c.is_constraint_or_condition-c.result =
-      record {
-        below = omega (arith, c.loop-p.invariant.1, c.loop-p-test.true);
-        inside = rw (← e) (sym c.is_decl.ensures ∙ c.if-is_decl.false);
-        is-kind = e;
-        is_bound = rw (← e) c.is_constraint_or_condition-c.ensures;
-      } in
+    record {
+      below = omega (arith, c.loop-p.invariant.1, c.loop-p-test.true);
+      inside = rw (← e) (sym c.is_decl.ensures ∙ c.if-is_decl.false);
+      is-kind = e;
+      is_bound = rw (← e) c.is_constraint_or_condition-c.ensures;
+    } in
     (omega (arith, h.below, c.requires.1.long), target-in c.args.sizes.now c.requires.1 c.requires.2 h)
 
 pub overflow_add-s : goal.overflow_add-s
@@ -39,12 +36,12 @@ loop-p-preserved c =
     let w = c.loop-p.invariant in
     let e = c.kind-k.ensures in
     let h : Seen (decode c.args.table.now) c.loop-p.p c.kind-k.result c.is_constraint_or_condition-c.result =
-      record {
-        below = omega (arith, c.loop-p.invariant.1, c.loop-p-test.true);
-        inside = rw (← e) (sym c.is_decl.ensures ∙ c.if-is_decl.false);
-        is-kind = e;
-        is_bound = rw (← e) c.is_constraint_or_condition-c.ensures;
-      } in
+    record {
+      below = omega (arith, c.loop-p.invariant.1, c.loop-p-test.true);
+      inside = rw (← e) (sym c.is_decl.ensures ∙ c.if-is_decl.false);
+      is-kind = e;
+      is_bound = rw (← e) c.is_constraint_or_condition-c.ensures;
+    } in
     (sizing-next w.0 h (let o = c.size_here-x.type_inv in omega arith) c.size_here-x.ensures, w.1)
 
 pub returns : goal.returns

@@ -1,5 +1,4 @@
 -- `group_sizes::size_here` meets its contract. Assumes nothing.
-use borrow.Author.Rules.{rules}
 use borrow.Author.Tests.{eq-eqb, ne_eqb}
 use native.Mathlib.Omega.{arith}
 use Rattle.group_sizes.proofs.size_here.Goals as goal

@@ -1,9 +1,7 @@
 -- `group_sizes::total` meets its contract: the sum of the sizes below d. Assumes nothing.
 use borrow.Author.Rules.{rules}
 use native.Mathlib.Omega.{arith}
-use mathlib.Core.Path.{◌≡◌, refl, sym, ◌∙◌, ap}
-use Prim.Native.Nat.{◌-◌, ◌*◌, ◌≤◌}
-use lib.ListN.{length}
+use mathlib.Core.Path.{refl, sym, ◌∙◌, ap}
 use Rattle.rules.specs.Table.{decode}
 use Rattle.rules.specs.InlineGroups.{is_kept}
 use Rattle.group_sizes.specs.Sizes.{total_size}

@@ -1,13 +1,9 @@
 -- `group_sizes::total` meets its contract: the sum of the sizes below d. Assumes nothing.
-use borrow.Author.Rules.{rules}
-use native.Mathlib.Omega.{arith}
-use mathlib.Core.Path.{◌≡◌, refl, sym, ◌∙◌, ap}
+use mathlib.Core.Path.{◌≡◌}
 use Prim.Native.Nat.{◌-◌, ◌*◌, ◌≤◌}
 use lib.ListN.{length}
 use Rattle.rules.specs.Table.{decode}
-use Rattle.rules.specs.InlineGroups.{is_kept}
 use Rattle.group_sizes.specs.Sizes.{total_size}
-use Rattle.group_sizes.proofs.Measures.{total-next, total-other}
 use Rattle.group_sizes.proofs.total.Given as goal
 
 abbrev pub invariant-loop-d : goal.invariant-loop-d

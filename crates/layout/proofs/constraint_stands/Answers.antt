@@ -1,5 +1,4 @@
 -- `layout::constraint_stands` meets its contract. Assumes nothing.
-use borrow.Author.Rules.{rules}
 use Rattle.layout.proofs.constraint_stands.Goals as goal
 
 pub returns : goal.returns

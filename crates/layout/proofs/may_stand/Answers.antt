@@ -1,5 +1,4 @@
 -- `layout::may_stand` meets its contract. Assumes nothing.
-use borrow.Author.Rules.{rules}
 use Rattle.layout.proofs.may_stand.Goals as goal
 
 pub returns : goal.returns

@@ -1,6 +1,4 @@
 -- `layout::sound_at` meets its contract. Assumes nothing.
-use borrow.Author.Rules.{rules}
-use borrow.Author.Tests.{not-true, not-false}
 use mathlib.Core.Path.{sym, ◌∙◌}
 use Rattle.rules.specs.Layouts.{sound_at}
 use Rattle.layout.specs.Surroundings.{around}

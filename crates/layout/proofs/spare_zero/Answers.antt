@@ -1,5 +1,4 @@
 -- `layout::spare_zero` meets its contract. Assumes nothing.
-use borrow.Author.Rules.{rules}
 use Rattle.layout.proofs.spare_zero.Goals as goal
 
 pub returns : goal.returns

@@ -1,5 +1,4 @@
 -- `layout::step` meets its contract. Assumes nothing.
-use borrow.Author.Rules.{rules}
 use Rattle.layout.specs.Surroundings.{after}
 use mathlib.Core.Path.{sym, ◌∙◌}
 use Rattle.layout.proofs.step.Goals as goal

@@ -1,5 +1,4 @@
 -- `numbers::number2` meets its contract: each byte is below 256. Assumes nothing.
-use borrow.Author.Rules.{rules}
 use native.Mathlib.Omega.{arith}
 use Rattle.rules.specs.Bytes.{number_at}
 use Rattle.numbers.proofs.number2.Goals as goal

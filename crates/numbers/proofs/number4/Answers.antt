@@ -1,5 +1,4 @@
 -- `numbers::number4` meets its contract: four bytes are two times 2. Assumes nothing.
-use borrow.Author.Rules.{rules}
 use mathlib.Core.Path.{sym}
 use Rattle.numbers.proofs.Parts.{number_at-parts}
 use Rattle.numbers.proofs.number4.Goals as goal

@@ -1,5 +1,4 @@
 -- `numbers::number8` meets its contract: eight bytes are two times 4. Assumes nothing.
-use borrow.Author.Rules.{rules}
 use mathlib.Core.Path.{sym}
 use Rattle.numbers.proofs.Parts.{number_at-parts}
 use Rattle.numbers.proofs.number8.Goals as goal

@@ -1,5 +1,4 @@
 -- `padding_fields::at_place` meets its contract. Assumes nothing.
-use borrow.Author.Rules.{rules}
 use borrow.Author.Tests.{eq-eqb, ne_eqb}
 use Rattle.rules.specs.PaddingFields.{pass9_at}
 use Rattle.padding_fields.proofs.at_place.Goals as goal

@@ -1,5 +1,4 @@
 -- `padding_fields::not_after_array` meets its contract: each way out is a case of the definition. Assumes nothing.
-use borrow.Author.Rules.{rules}
 use borrow.Author.Tests.{eq-eqb, ne_eqb}
 use Rattle.rules.specs.PaddingFields.{not_after_array}
 use Rattle.padding_fields.proofs.not_after_array.Goals as goal

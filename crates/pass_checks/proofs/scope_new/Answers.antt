@@ -1,5 +1,4 @@
 -- `pass_checks::scope_new` meets its contract. Assumes nothing.
-use borrow.Author.Rules.{rules}
 use Rattle.pass_faults.specs.Passes.{pass_faults}
 use Rattle.pass_checks.proofs.scope_new.Goals as goal
 

@@ -1,5 +1,4 @@
 -- `pass_faults::finding` meets its contract. Assumes nothing.
-use borrow.Author.Rules.{rules}
 use borrow.Author.Tests.{ne_eqb}
 use Rattle.pass_faults.specs.Passes.{pass_at}
 use Rattle.pass_faults.proofs.finding.Goals as goal

@@ -1,13 +1,9 @@
 -- `pass_faults::next_of` meets its contract: the places from a to p are passed over. Assumes nothing.
-use borrow.Author.Rules.{rules}
-use borrow.Author.Tests.{ne_eqb}
-use native.Mathlib.Omega.{arith}
 use Prim.Native.Nat.{◌-◌}
 use mathlib.Core.Path.{◌≡◌}
 use lib.ListN.{length}
 use Rattle.rules.specs.Table.{decode}
-use Rattle.pass_faults.specs.Passed.{is_among, Passed}
-use Rattle.pass_faults.proofs.Passed.{passed_none, passed-more}
+use Rattle.pass_faults.specs.Passed.{Passed}
 use Rattle.pass_faults.proofs.next_of.Given as goal
 
 abbrev pub invariant-loop-p : goal.invariant-loop-p

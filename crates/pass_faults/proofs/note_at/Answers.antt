@@ -1,5 +1,4 @@
 -- `pass_faults::note_at` meets its contract. Assumes nothing.
-use borrow.Author.Rules.{rules}
 use native.Mathlib.Omega.{arith}
 use Rattle.rules.specs.SizeFields.{pass5_at}
 use Rattle.pass_faults.specs.Passes.{pass_at}

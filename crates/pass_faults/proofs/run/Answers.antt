@@ -1,6 +1,4 @@
 -- `pass_faults::run` meets its contract. Assumes nothing.
-use borrow.Author.Rules.{rules}
-use borrow.Author.Tests.{not-false}
 use mathlib.Core.Path.{refl}
 use mathlib.Core.Logic.{inl, inr}
 use Rattle.rules.specs.Replies.{later_faults}

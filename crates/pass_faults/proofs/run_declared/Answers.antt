@@ -1,5 +1,4 @@
 -- `pass_faults::run_declared` meets its contract. Assumes nothing.
-use borrow.Author.Rules.{rules}
 use Rattle.pass_faults.proofs.Known.{known-declared, declared-other}
 use Rattle.pass_faults.proofs.run_declared.Goals as goal
 

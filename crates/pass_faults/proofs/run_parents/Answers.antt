@@ -1,5 +1,4 @@
 -- `pass_faults::run_parents` meets its contract. Assumes nothing.
-use borrow.Author.Rules.{rules}
 use native.Mathlib.Omega.{arith}
 use Rattle.pass_faults.proofs.Known.{known-parents}
 use Rattle.pass_faults.proofs.run_parents.Goals as goal

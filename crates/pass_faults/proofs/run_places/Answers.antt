@@ -1,17 +1,11 @@
 -- `pass_faults::run_places` meets its contract: after p turns the faults of the places below p are noted. Assumes nothing.
 use borrow.Author.Rules.{rules}
 use native.Mathlib.Omega.{arith}
-use Prim.Native.Nat.{◌*◌, ◌-◌, ◌≤◌}
-use mathlib.Core.Path.{◌≡◌, refl, ap, ◌∙◌}
-use lib.ListN.{length}
-use Rattle.rules.specs.Table.{decode}
-use Rattle.rules.specs.Places.{each}
-use Rattle.rules.specs.Faults.{log, logged}
+use mathlib.Core.Path.{refl, ap, ◌∙◌}
+use Rattle.rules.specs.Faults.{logged}
 use Rattle.rules.specs.declared.Tally.{Tally}
-use Rattle.faults.specs.Notes.{no_faults, noted_all}
 use Rattle.faults.proofs.Laws.{noted-start, noted-place, noted-end, noted-logged}
 use Rattle.table.proofs.Laws.{length-decode}
-use Rattle.pass_faults.specs.Passes.{pass_at}
 use Rattle.pass_faults.proofs.Laws.{pass-faults}
 use Rattle.pass_faults.proofs.Passed.{noted-passed}
 use Rattle.pass_faults.proofs.run_places.Goals as goal

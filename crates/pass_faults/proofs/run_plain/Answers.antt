@@ -1,5 +1,4 @@
 -- `pass_faults::run_plain` meets its contract. Assumes nothing.
-use borrow.Author.Rules.{rules}
 use Rattle.pass_faults.proofs.Known.{known-none}
 use Rattle.pass_faults.proofs.run_plain.Goals as goal
 

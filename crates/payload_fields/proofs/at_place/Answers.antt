@@ -1,5 +1,4 @@
 -- `payload_fields::at_place` meets its contract. Assumes nothing.
-use borrow.Author.Rules.{rules}
 use mathlib.Core.Path.{sym, ◌∙◌}
 use Rattle.rules.specs.PayloadFields.{pass7_at}
 use Rattle.payload_fields.proofs.at_place.Goals as goal

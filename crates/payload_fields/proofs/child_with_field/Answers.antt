@@ -1,11 +1,7 @@
 -- `payload_fields::child_with_field` meets its contract: none of the places below c is one. Assumes nothing.
-use borrow.Author.Rules.{rules}
-use Prim.Native.Nat.{◌-◌}
-use mathlib.Core.Path.{◌≡◌, refl, sym, ap, ◌∙◌}
+use mathlib.Core.Path.{refl, sym, ap, ◌∙◌}
 use native.Mathlib.Nat.{sub-zero}
-use Rattle.rules.specs.Table.{decode}
 use Rattle.rules.specs.Places.{first}
-use Rattle.rules.specs.PayloadFields.{child_with_field}
 use Rattle.table.proofs.Laws.{up-hit, up-miss, up-end}
 use Rattle.payload_fields.proofs.child_with_field.Goals as goal
 

@@ -1,5 +1,4 @@
 -- `payload_fields::is_child_with_field` meets its contract. Assumes nothing.
-use borrow.Author.Rules.{rules}
 use Rattle.payload_fields.proofs.is_child_with_field.Goals as goal
 
 pub returns-then-is_packet_or_struct-second : goal.returns-then-is_packet_or_struct-second

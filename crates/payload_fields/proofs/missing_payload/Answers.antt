@@ -1,5 +1,4 @@
 -- `payload_fields::missing_payload` meets its contract. Assumes nothing.
-use borrow.Author.Rules.{rules}
 use mathlib.Core.Path.{sym, ◌∙◌}
 use Rattle.rules.specs.Choice.{when}
 use Rattle.rules.specs.PayloadFields.{missing_payload}

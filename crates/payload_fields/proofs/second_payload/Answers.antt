@@ -1,5 +1,4 @@
 -- `payload_fields::second_payload` meets its contract. Assumes nothing.
-use borrow.Author.Rules.{rules}
 use Rattle.rules.specs.PayloadFields.{second_payload}
 use Rattle.payload_fields.proofs.second_payload.Goals as goal
 

@@ -1,5 +1,4 @@
 -- `printed::append_answer` meets its contract: the reply's line, and what stands behind it. Assumes nothing.
-use borrow.Author.Rules.{rules}
 use native.Mathlib.Omega.{arith}
 use native.Mathlib.Nat.{zero-add}
 use mathlib.Core.Path.{◌∙◌}

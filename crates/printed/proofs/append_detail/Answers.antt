@@ -1,5 +1,4 @@
 -- `printed::append_detail` meets its contract. Assumes nothing.
-use borrow.Author.Rules.{rules}
 use native.Mathlib.Omega.{arith}
 use Rattle.rules.specs.Replies.{numbered}
 use Rattle.rules.specs.Printed.{detail}

@@ -1,5 +1,4 @@
 -- `printed::append_fault` meets its contract. Assumes nothing.
-use borrow.Author.Rules.{rules}
 use Rattle.printed.proofs.Laws.{append-single, append-double}
 use Rattle.printed.proofs.append_fault.Goals as goal
 

@@ -1,10 +1,7 @@
 -- `printed::append_faults` meets its contract: after i turns the lines of the first i faults are appended. Assumes nothing.
 use borrow.Author.Rules.{rules}
-use Prim.Native.Nat.{◌-◌, ◌≤◌}
-use mathlib.Core.Path.{◌≡◌, refl, ap}
-use lib.ListN.{length}
+use mathlib.Core.Path.{refl, ap}
 use Rattle.rules.specs.Printed.{fault_line, fault_lines}
-use Rattle.printed_text.specs.TextAppended.{TextAppended}
 use Rattle.printed.proofs.Laws.{fault_line_at, length-fault, each_none, line-fits, append-each, each-done}
 use Rattle.printed.proofs.append_faults.Goals as goal
 
@@ -19,12 +16,11 @@ append_fault-p-requires c =
 
 pub loop-i-preserved : goal.loop-i-preserved
 unfolding fault_lines
-loop-i-preserved c =
-    (
-      append-each (fault_line_at c.args.faults.now) 105 c.args.count (λ q. length-fault _) c.loop-i.i c.requires.0 c.loop-i.invariant.1 c.loop-i.invariant.0 c.loop-i-test.true (ap fault_line c.fault_at.ensures) c.append_fault-p.ensures,
-      search rules,
-      search rules,
-    )
+loop-i-preserved c = (
+  append-each (fault_line_at c.args.faults.now) 105 c.args.count (λ q. length-fault _) c.loop-i.i c.requires.0 c.loop-i.invariant.1 c.loop-i.invariant.0 c.loop-i-test.true (ap fault_line c.fault_at.ensures) c.append_fault-p.ensures,
+  search rules,
+  search rules,
+)
 
 pub returns : goal.returns
 unfolding fault_lines

@@ -1,11 +1,9 @@
 -- `printed::append_faults` meets its contract: after i turns the lines of the first i faults are appended. Assumes nothing.
-use borrow.Author.Rules.{rules}
 use Prim.Native.Nat.{◌-◌, ◌≤◌}
-use mathlib.Core.Path.{◌≡◌, refl, ap}
+use mathlib.Core.Path.{◌≡◌}
 use lib.ListN.{length}
-use Rattle.rules.specs.Printed.{fault_line, fault_lines}
+use Rattle.rules.specs.Printed.{fault_lines}
 use Rattle.printed_text.specs.TextAppended.{TextAppended}
-use Rattle.printed.proofs.Laws.{fault_line_at, length-fault, each_none, line-fits, append-each, each-done}
 use Rattle.printed.proofs.append_faults.Given as goal
 
 abbrev pub invariant-loop-i : goal.invariant-loop-i

@@ -1,13 +1,9 @@
 -- `printed::append_records` meets its contract: after i turns the lines of the first i records are appended. Assumes nothing.
-use borrow.Author.Rules.{rules}
-use native.Mathlib.Omega.{arith}
 use Prim.Native.Nat.{◌-◌, ◌≤◌}
-use mathlib.Core.Path.{◌≡◌, refl, ap, ◌∙◌}
+use mathlib.Core.Path.{◌≡◌}
 use lib.ListN.{length}
-use Rattle.rules.specs.Printed.{record_line, record_lines}
-use Rattle.table.proofs.Laws.{length-decode, at-decode}
+use Rattle.rules.specs.Printed.{record_lines}
 use Rattle.printed_text.specs.TextAppended.{TextAppended}
-use Rattle.printed.proofs.Laws.{record_line_at, length-record, each_none, line-fits, append-each, each-done}
 use Rattle.printed.proofs.append_records.Given as goal
 
 abbrev pub invariant-loop-i : goal.invariant-loop-i

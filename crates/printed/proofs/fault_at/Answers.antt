@@ -1,5 +1,4 @@
 -- `printed::fault_at` meets its contract: each number from its own bytes. Assumes nothing.
-use borrow.Author.Rules.{rules}
 use Rattle.printed.proofs.fault_at.Goals as goal
 
 pub returns : goal.returns

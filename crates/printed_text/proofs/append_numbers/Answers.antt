@@ -1,11 +1,7 @@
 -- `printed_text::append_numbers` meets its contract: after i turns the first i numbers are appended. Assumes nothing.
-use borrow.Author.Rules.{rules}
 use native.Mathlib.Omega.{arith}
-use Prim.Native.Nat.{◌-◌}
-use mathlib.Core.Path.{◌≡◌, refl}
-use lib.ListN.{length, take, length-set}
-use Rattle.rules.specs.Printed.{listing}
-use Rattle.printed_text.specs.TextAppended.{TextAppended}
+use mathlib.Core.Path.{refl}
+use lib.ListN.{length-set}
 use Rattle.printed_text.proofs.Laws.{listing_none, blank-fits, append-listed, listing-done}
 use Rattle.printed_text.proofs.append_numbers.Goals as goal
 

@@ -1,5 +1,4 @@
 -- `records::at` meets its contract. Assumes nothing.
-use borrow.Author.Rules.{rules}
 use native.Mathlib.Omega.{arith}
 use Rattle.rules.specs.Table.{decode}
 use Rattle.table.proofs.Laws.{at-past}

@@ -1,5 +1,4 @@
 -- `repeats::again` meets its contract. Assumes nothing.
-use borrow.Author.Rules.{rules}
 use mathlib.Core.Path.{ap, ◌∙◌}
 use Rattle.rules.specs.Faults.{repeated}
 use Rattle.rules.specs.EnumDeclarations.{again}

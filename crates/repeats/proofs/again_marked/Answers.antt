@@ -1,5 +1,4 @@
 -- `repeats::again_marked` meets its contract. Assumes nothing.
-use borrow.Author.Rules.{rules}
 use mathlib.Core.Path.{sym, ◌∙◌}
 use Rattle.repeats.proofs.Laws.{not-again}
 use Rattle.repeats.proofs.again_marked.Goals as goal

@@ -1,5 +1,4 @@
 -- `repeats::repeated` meets its contract: each way out is a case of the definition. Assumes nothing.
-use borrow.Author.Rules.{rules}
 use mathlib.Core.Path.{sym, ◌∙◌}
 use Rattle.rules.specs.Faults.{repeated}
 use Rattle.repeats.proofs.repeated.Goals as goal

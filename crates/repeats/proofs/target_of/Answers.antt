@@ -1,5 +1,4 @@
 -- `repeats::target_of` meets its contract. Assumes nothing.
-use borrow.Author.Rules.{rules}
 use Rattle.repeats.proofs.target_of.Goals as goal
 
 pub returns-in-FieldNames : goal.returns-in-FieldNames

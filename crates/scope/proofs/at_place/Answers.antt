@@ -1,6 +1,4 @@
 -- `scope::at_place` meets its contract. Assumes nothing.
-use borrow.Author.Rules.{rules}
-use borrow.Author.Tests.{not-true, not-false}
 use mathlib.Core.Path.{sym, ◌∙◌}
 use Rattle.rules.specs.Scopes.{pass1_at, redeclared}
 use Rattle.scope.proofs.at_place.Goals as goal

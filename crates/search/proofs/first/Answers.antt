@@ -1,11 +1,5 @@
 -- `search::first` meets its contract: no place from a up to i is what is looked for. Assumes nothing.
-use borrow.Author.Rules.{rules}
-use Prim.Native.Nat.{◌-◌}
-use mathlib.Core.Path.{◌≡◌, refl, sym, ◌∙◌}
-use lib.ListN.{length}
-use Rattle.rules.specs.Table.{decode}
-use Rattle.rules.specs.Places.{first}
-use Rattle.rules.specs.Places.{holds_at}
+use mathlib.Core.Path.{refl, sym, ◌∙◌}
 use Rattle.table.proofs.Laws.{up-hit, up-miss, up-end}
 use Rattle.search.proofs.first.Goals as goal
 

@@ -1,10 +1,8 @@
 -- `search::nearest` meets its contract: no place from i up to p is what is looked for. Assumes nothing.
-use borrow.Author.Rules.{rules}
-use mathlib.Core.Path.{◌≡◌, refl, sym, ◌∙◌}
+use mathlib.Core.Path.{◌≡◌}
 use Rattle.rules.specs.Table.{decode}
 use Rattle.rules.specs.Places.{nearest}
 use Rattle.rules.specs.Places.{holds_at}
-use Rattle.table.proofs.Laws.{down-hit, down-miss, down-end}
 use Rattle.search.proofs.nearest.Given as goal
 
 abbrev pub invariant-loop-i : goal.invariant-loop-i

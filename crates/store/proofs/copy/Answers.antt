@@ -1,5 +1,4 @@
 -- `store::copy` meets its contract: the records from q on are the bytes from 40 * q on. Assumes nothing.
-use borrow.Author.Rules.{rules}
 use native.Mathlib.Omega.{arith}
 use Prim.Native.Nat.{ℕ, ◌+◌, ◌*◌, ◌-◌}
 use mathlib.Core.Path.{◌≡◌, ap}

@@ -1,5 +1,4 @@
 -- `store::put` meets its contract. Assumes nothing.
-use borrow.Author.Rules.{rules}
 use Rattle.store.proofs.put.Goals as goal
 
 pub returns : goal.returns

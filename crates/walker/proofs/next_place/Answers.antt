@@ -1,5 +1,4 @@
 -- `walker::next_place` meets its contract. Assumes nothing.
-use borrow.Author.Rules.{rules}
 use native.Mathlib.Omega.{arith}
 use Rattle.rules.specs.Table.{decode}
 use Rattle.walker.proofs.Laws.{next-within, next_past}

@@ -1,5 +1,4 @@
 -- `widths::scalar_max` meets its contract. Assumes nothing.
-use borrow.Author.Rules.{rules}
 use native.Mathlib.Omega.{arith}
 use Rattle.widths.proofs.Laws.{shifted-pos, max-below, max-from}
 use Rattle.widths.proofs.scalar_max.Goals as goal

@@ -1,5 +1,4 @@
 -- `decl_references::field_references::field_reference` meets its contract. Assumes nothing.
-use borrow.Author.Rules.{rules}
 use mathlib.Core.Path.{◌∙◌}
 use Rattle.decl_references.proofs.field_references.Refers.{field-group, field-type, field-array, field-nowhere}
 use Rattle.decl_references.proofs.field_references.field_reference.Goals as goal

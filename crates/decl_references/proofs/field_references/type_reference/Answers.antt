@@ -1,5 +1,4 @@
 -- `decl_references::field_references::type_reference` meets its contract. Assumes nothing.
-use borrow.Author.Rules.{rules}
 use borrow.Author.Tests.{eq-eqb, ne_eqb}
 use Rattle.rules.specs.DeclIdentifiers.{type_reference}
 use Rattle.decl_references.proofs.field_references.type_reference.Goals as goal

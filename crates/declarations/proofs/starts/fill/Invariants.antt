@@ -1,12 +1,9 @@
 -- `declarations::starts::fill` meets its contract: the starts are those from place i on. Assumes nothing.
-use borrow.Author.Rules.{rules}
-use native.Mathlib.Omega.{arith}
-use Prim.Native.Nat.{ℕ, ◌+◌, ◌-◌, ◌≤◌}
-use mathlib.Core.Path.{◌≡◌, refl, sym, ap, ◌∙◌}
-use lib.ListN.{length, length-replicate}
+use Prim.Native.Nat.{◌≤◌}
+use mathlib.Core.Path.{◌≡◌}
+use lib.ListN.{length}
 use Rattle.rules.specs.Table.{decode}
 use Rattle.declarations.specs.Starts.{StartsFrom}
-use Rattle.declarations.proofs.starts.Laws.{starts-past}
 use Rattle.declarations.proofs.starts.fill.Given as goal
 
 abbrev pub invariant-loop-i : goal.invariant-loop-i

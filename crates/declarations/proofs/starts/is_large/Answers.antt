@@ -1,5 +1,4 @@
 -- `declarations::starts::is_large` meets its contract. Assumes nothing.
-use borrow.Author.Rules.{rules}
 use borrow.Author.Tests.{leb-true}
 use lib.Dec.{ltb}
 use Rattle.table.proofs.Searches.{and-true}

@@ -1,5 +1,4 @@
 -- `declarations::starts::set_start` meets its contract. Assumes nothing.
-use borrow.Author.Rules.{rules}
 use mathlib.Core.Path.{sym, ◌∙◌}
 use Rattle.declarations.proofs.starts.Laws.{start_none, start-here}
 use Rattle.declarations.proofs.starts.set_start.Goals as goal

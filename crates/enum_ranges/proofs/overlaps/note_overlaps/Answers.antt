@@ -1,15 +1,12 @@
 -- `enum_ranges::overlaps::note_overlaps` meets its contract: after j turns the faults of the first j pairs of neighbours are noted. Assumes nothing.
 use borrow.Author.Rules.{rules}
 use native.Mathlib.Omega.{arith}
-use Prim.Native.Nat.{◌+◌, ◌-◌, ◌≤◌}
-use mathlib.Core.Path.{◌≡◌, refl, sym, ap}
-use lib.ListN.{length, get_or, take}
+use Prim.Native.Nat.{◌+◌, ◌-◌}
+use mathlib.Core.Path.{refl, sym, ap}
+use lib.ListN.{get_or, take}
 use lib.Seq.{length-take-le, get_or-take}
 use Rattle.rules.specs.Table.{decode}
-use Rattle.rules.specs.Places.{each}
-use Rattle.rules.specs.Faults.{log}
-use Rattle.rules.specs.EnumDeclarations.{overlap, overlaps}
-use Rattle.faults.specs.Notes.{noted_all}
+use Rattle.rules.specs.EnumDeclarations.{overlaps}
 use Rattle.faults.proofs.Laws.{noted-start, noted-place, noted-end, each-total}
 use Rattle.enum_ranges.proofs.overlaps.Laws.{overlap-few}
 use Rattle.enum_ranges.proofs.overlaps.note_overlaps.Goals as goal

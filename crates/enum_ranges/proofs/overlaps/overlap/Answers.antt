@@ -1,5 +1,4 @@
 -- `enum_ranges::overlaps::overlap` meets its contract. Assumes nothing.
-use borrow.Author.Rules.{rules}
 use mathlib.Core.Path.{◌∙◌}
 use Rattle.rules.specs.EnumDeclarations.{overlap}
 use Rattle.enum_ranges.proofs.overlaps.overlap.Goals as goal

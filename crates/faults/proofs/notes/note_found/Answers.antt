@@ -1,5 +1,4 @@
 -- `faults::notes::note_found` meets its contract. Assumes nothing.
-use borrow.Author.Rules.{rules}
 use mathlib.Core.Path.{◌∙◌}
 use Rattle.faults.proofs.Laws.{noted-none, noted_one}
 use Rattle.faults.proofs.notes.note_found.Goals as goal

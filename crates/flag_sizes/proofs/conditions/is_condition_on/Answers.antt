@@ -1,5 +1,4 @@
 -- `flag_sizes::conditions::is_condition_on` meets its contract. Assumes nothing.
-use borrow.Author.Rules.{rules}
 use Rattle.flag_sizes.proofs.conditions.is_condition_on.Goals as goal
 
 pub returns : goal.returns

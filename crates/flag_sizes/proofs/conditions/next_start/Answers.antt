@@ -1,5 +1,4 @@
 -- `flag_sizes::conditions::next_start` meets its contract. Assumes nothing.
-use borrow.Author.Rules.{rules}
 use native.Mathlib.Omega.{arith}
 use mathlib.Core.Path.{sym, ◌∙◌}
 use Rattle.rules.specs.Table.{decode}

@@ -1,5 +1,4 @@
 -- `flag_sizes::conditions::place_before` meets its contract. Assumes nothing.
-use borrow.Author.Rules.{rules}
 use mathlib.Core.Path.{refl}
 use native.Mathlib.Omega.{arith}
 use Rattle.flag_sizes.proofs.conditions.place_before.Goals as goal

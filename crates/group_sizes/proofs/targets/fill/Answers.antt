@@ -1,5 +1,4 @@
 -- `group_sizes::targets::fill` meets its contract: with no starts, every search starts at place 0. Assumes nothing.
-use borrow.Author.Rules.{rules}
 use mathlib.Core.Path.{refl}
 use Rattle.group_sizes.proofs.targets.fill.Goals as goal
 

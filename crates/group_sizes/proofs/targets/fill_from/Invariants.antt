@@ -1,13 +1,9 @@
 -- `group_sizes::targets::fill_from` meets its contract: the group fields below p are resolved. Assumes nothing.
-use borrow.Author.Rules.{rules}
-use native.Mathlib.Omega.{arith}
-use mathlib.Core.Path.{◌≡◌, refl, sym, ap, ◌∙◌}
+use mathlib.Core.Path.{◌≡◌}
 use Prim.Native.Nat.{◌-◌, ◌≤◌}
-use lib.ListN.{length, length-set}
+use lib.ListN.{length}
 use Rattle.rules.specs.Table.{decode}
-use Rattle.rules.specs.Places.{decl_named}
 use Rattle.group_sizes.specs.Targets.{TargetsKnown}
-use Rattle.group_sizes.proofs.targets.Known.{named_in, known-other, known_next, known-never, known-end}
 use Rattle.group_sizes.proofs.targets.fill_from.Given as goal
 
 abbrev pub invariant-loop-p : goal.invariant-loop-p

@@ -1,13 +1,10 @@
 -- `group_sizes::targets::first_group_field` meets its contract: below p stands no group field. Assumes nothing.
-use borrow.Author.Rules.{rules}
-use native.Mathlib.Omega.{arith}
-use mathlib.Core.Path.{◌≡◌, ◌∙◌}
+use mathlib.Core.Path.{◌≡◌}
 use mathlib.Core.List.{List}
 use Prim.Native.Nat.{ℕ, ◌-◌, ◌≤◌}
 use lib.ListN.{length}
 use Rattle.rules.specs.Table.{decode}
 use Rattle.group_sizes.specs.Targets.{TargetsKnown}
-use Rattle.group_sizes.proofs.targets.Known.{known_start, known-other}
 use Rattle.group_sizes.proofs.targets.first_group_field.Given as goal
 
 abbrev pub invariant-loop-p : goal.invariant-loop-p

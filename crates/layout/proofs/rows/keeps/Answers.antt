@@ -1,5 +1,4 @@
 -- `layout::rows::keeps` meets its contract. Assumes nothing.
-use borrow.Author.Rules.{rules}
 use Rattle.layout.proofs.rows.keeps.Goals as goal
 
 pub returns : goal.returns

@@ -1,5 +1,4 @@
 -- `layout::rows::keeps_row` meets its contract. Assumes nothing.
-use borrow.Author.Rules.{rules}
 use Rattle.layout.proofs.rows.keeps_row.Goals as goal
 
 pub returns : goal.returns

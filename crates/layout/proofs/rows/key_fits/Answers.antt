@@ -1,5 +1,4 @@
 -- `layout::rows::key_fits` meets its contract. Assumes nothing.
-use borrow.Author.Rules.{rules}
 use Rattle.layout.proofs.rows.key_fits.Goals as goal
 
 pub returns : goal.returns

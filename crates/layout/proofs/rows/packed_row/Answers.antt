@@ -1,5 +1,4 @@
 -- `layout::rows::packed_row` meets its contract: each arm is a row of the table, packed. Assumes nothing.
-use borrow.Author.Rules.{rules}
 use borrow.Author.Tests.{ne_eqb}
 use Rattle.rules.specs.Layouts.{rows, row_among, row_of}
 use Rattle.layout.specs.Packed.{unpacked}

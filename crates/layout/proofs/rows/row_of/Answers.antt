@@ -1,5 +1,4 @@
 -- `layout::rows::row_of` meets its contract. Assumes nothing.
-use borrow.Author.Rules.{rules}
 use Rattle.layout.specs.Packed.{unpacked}
 use Rattle.layout.proofs.rows.row_of.Goals as goal
 

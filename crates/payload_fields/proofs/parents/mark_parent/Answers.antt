@@ -1,6 +1,4 @@
 -- `payload_fields::parents::mark_parent` meets its contract. Assumes nothing.
-use borrow.Author.Rules.{rules}
-use borrow.Author.Tests.{not-true}
 use mathlib.Core.Path.{sym, ◌∙◌}
 use Rattle.payload_fields.proofs.parents.Laws.{no-child-kind, no-child-bare, no-child-marked}
 use Rattle.payload_fields.proofs.parents.mark_parent.Goals as goal

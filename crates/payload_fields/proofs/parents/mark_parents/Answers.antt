@@ -1,11 +1,9 @@
 -- `payload_fields::parents::mark_parents` meets its contract: the children below c are marked. Assumes nothing.
 use borrow.Author.Rules.{rules}
 use native.Mathlib.Omega.{arith}
-use Prim.Native.Nat.{◌-◌, ◌≤◌}
 use mathlib.Core.Path.{◌≡◌, refl, ◌∙◌}
 use lib.ListN.{length}
 use Rattle.rules.specs.Table.{decode}
-use Rattle.payload_fields.specs.Parents.{NoChildWithField}
 use Rattle.payload_fields.proofs.parents.Laws.{no-child-start}
 use Rattle.payload_fields.proofs.parents.mark_parents.Goals as goal
 

@@ -1,5 +1,4 @@
 -- `printed_text::replies::append_faulty` meets its contract. Assumes nothing.
-use borrow.Author.Rules.{rules}
 use Rattle.rules.specs.Printed.{ascii}
 use Rattle.printed_text.proofs.replies.append_faulty.Goals as goal
 

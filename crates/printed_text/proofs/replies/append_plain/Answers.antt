@@ -1,5 +1,4 @@
 -- `printed_text::replies::append_plain` meets its contract: each reply with its name. Assumes nothing.
-use borrow.Author.Rules.{rules}
 use Rattle.rules.specs.Replies.{numbered}
 use Rattle.rules.specs.Printed.{reply_line, names, ascii, listing}
 use Rattle.printed_text.proofs.replies.Laws.{only-overlisted}

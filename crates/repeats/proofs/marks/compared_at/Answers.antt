@@ -1,5 +1,4 @@
 -- `repeats::marks::compared_at` meets its contract. Assumes nothing.
-use borrow.Author.Rules.{rules}
 use mathlib.Core.Path.{ap}
 use Rattle.rules.specs.declared.Record.{Record}
 use Rattle.repeats.proofs.marks.compared_at.Goals as goal

@@ -1,5 +1,4 @@
 -- `repeats::marks::mark_at` meets its contract. Assumes nothing.
-use borrow.Author.Rules.{rules}
 use lib.ListN.{get_or-eq_default}
 use Rattle.table.proofs.Laws.{same-default}
 use mathlib.Core.Path.{sym}

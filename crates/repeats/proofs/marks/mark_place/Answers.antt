@@ -1,6 +1,5 @@
 -- `repeats::marks::mark_place` meets its contract. Assumes nothing.
 use borrow.Author.Rules.{rules}
-use borrow.Author.Tests.{not-true, not-false}
 use mathlib.Core.Path.{sym, ◌∙◌}
 use Prim.Native.Nat.{ℕ, ◌%◌, ◌<◌}
 use lib.ListN.{length}

@@ -1,10 +1,6 @@
 -- `repeats::marks::mark_places` meets its contract. Assumes nothing.
 use borrow.Author.Rules.{rules}
-use Prim.Native.Nat.{◌-◌, ◌≤◌}
-use mathlib.Core.Path.{◌≡◌, refl}
-use lib.ListN.{length}
-use Rattle.rules.specs.Table.{decode}
-use Rattle.repeats.specs.Marks.{Marked, Stamped}
+use mathlib.Core.Path.{refl}
 use Rattle.repeats.proofs.marks.Laws.{stamped-start}
 use Rattle.repeats.proofs.marks.mark_places.Goals as goal
 

@@ -1,11 +1,9 @@
 -- `repeats::marks::mark_places` meets its contract. Assumes nothing.
-use borrow.Author.Rules.{rules}
 use Prim.Native.Nat.{◌-◌, ◌≤◌}
-use mathlib.Core.Path.{◌≡◌, refl}
+use mathlib.Core.Path.{◌≡◌}
 use lib.ListN.{length}
 use Rattle.rules.specs.Table.{decode}
 use Rattle.repeats.specs.Marks.{Marked, Stamped}
-use Rattle.repeats.proofs.marks.Laws.{stamped-start}
 use Rattle.repeats.proofs.marks.mark_places.Given as goal
 
 abbrev pub invariant-loop-p : goal.invariant-loop-p

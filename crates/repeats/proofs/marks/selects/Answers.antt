@@ -1,5 +1,4 @@
 -- `repeats::marks::selects` meets its contract. Assumes nothing.
-use borrow.Author.Rules.{rules}
 use Rattle.repeats.proofs.marks.selects.Goals as goal
 
 pub returns-in-FieldNames : goal.returns-in-FieldNames

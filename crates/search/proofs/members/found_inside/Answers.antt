@@ -1,5 +1,4 @@
 -- `search::members::found_inside` meets its contract. Assumes nothing.
-use borrow.Author.Rules.{rules}
 use Rattle.rules.specs.Places.{found_inside}
 use Rattle.search.proofs.members.found_inside.Goals as goal
 

@@ -1,5 +1,4 @@
 -- `search::members::has_member` meets its contract. Assumes nothing.
-use borrow.Author.Rules.{rules}
 use mathlib.Core.Path.{ap, ◌∙◌}
 use Rattle.rules.specs.Places.{found_inside}
 use Rattle.search.proofs.members.Laws.{none-past}

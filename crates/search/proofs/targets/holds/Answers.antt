@@ -1,5 +1,4 @@
 -- `search::targets::holds` meets its contract: each arm is a clause of the definition. Assumes nothing.
-use borrow.Author.Rules.{rules}
 use Rattle.search.proofs.targets.holds.Goals as goal
 
 pub returns-in-Decl : goal.returns-in-Decl

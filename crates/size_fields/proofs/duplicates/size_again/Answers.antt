@@ -1,7 +1,6 @@
 -- `size_fields::duplicates::size_again` meets its contract. Assumes nothing.
-use borrow.Author.Rules.{rules}
 use native.Mathlib.Omega.{arith}
-use borrow.Author.Tests.{not-true, not-false, eq-eqb, ne_eqb}
+use borrow.Author.Tests.{eq-eqb, ne_eqb}
 use mathlib.Core.Path.{sym, ◌∙◌}
 use Rattle.rules.specs.EnumDeclarations.{again}
 use Rattle.rules.specs.SizeFields.{size_again}

@@ -1,5 +1,4 @@
 -- `size_fields::duplicates::size_code` meets its contract. Assumes nothing.
-use borrow.Author.Rules.{rules}
 use mathlib.Core.Path.{refl}
 use Rattle.size_fields.proofs.duplicates.size_code.Goals as goal
 

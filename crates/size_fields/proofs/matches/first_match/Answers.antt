@@ -1,5 +1,4 @@
 -- `size_fields::matches::first_match` meets its contract. Assumes nothing.
-use borrow.Author.Rules.{rules}
 use mathlib.Core.Path.{◌∙◌}
 use Rattle.size_fields.proofs.matches.Laws.{from_start}
 use Rattle.size_fields.proofs.matches.first_match.Goals as goal

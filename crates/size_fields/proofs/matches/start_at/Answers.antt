@@ -1,5 +1,4 @@
 -- `size_fields::matches::start_at` meets its contract. Assumes nothing.
-use borrow.Author.Rules.{rules}
 use lib.ListN.{get_or-eq_default}
 use mathlib.Core.Path.{sym}
 use Rattle.table.proofs.Laws.{same-default}

@@ -4,8 +4,6 @@ use native.Mathlib.Omega.{arith}
 use Prim.Native.Nat.{ℕ, ◌+◌, ◌-◌}
 use mathlib.Core.Path.{◌≡◌, refl, ap, ◌∙◌}
 use lib.ListN.{length, length-replicate}
-use Rattle.rules.specs.Table.{decode}
-use Rattle.size_fields.specs.SizeStarts.{SizeStarts, KeptPlaces}
 use Rattle.size_fields.proofs.starts.Laws.{later-none}
 use Rattle.size_fields.proofs.starts.fill_places.Goals as goal
 

@@ -1,12 +1,8 @@
 -- `size_fields::starts::fill_places` meets its contract: the searches from place p on may start as said. Assumes nothing.
-use borrow.Author.Rules.{rules}
-use native.Mathlib.Omega.{arith}
-use Prim.Native.Nat.{ℕ, ◌+◌, ◌-◌}
-use mathlib.Core.Path.{◌≡◌, refl, ap, ◌∙◌}
-use lib.ListN.{length, length-replicate}
+use mathlib.Core.Path.{◌≡◌}
+use lib.ListN.{length}
 use Rattle.rules.specs.Table.{decode}
 use Rattle.size_fields.specs.SizeStarts.{SizeStarts, KeptPlaces}
-use Rattle.size_fields.proofs.starts.Laws.{later-none}
 use Rattle.size_fields.proofs.starts.fill_places.Given as goal
 
 abbrev pub invariant-loop-p : goal.invariant-loop-p

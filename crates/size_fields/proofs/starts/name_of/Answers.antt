@@ -1,5 +1,4 @@
 -- `size_fields::starts::name_of` meets its contract. Assumes nothing.
-use borrow.Author.Rules.{rules}
 use borrow.Author.Tests.{eq-eqb, ne_eqb}
 use mathlib.Core.Path.{refl}
 use Rattle.size_fields.proofs.starts.name_of.Goals as goal

@@ -1,11 +1,7 @@
 -- `size_fields::starts::set_starts` meets its contract: the places below q have their starts. Assumes nothing.
 use borrow.Author.Rules.{rules}
 use native.Mathlib.Omega.{arith}
-use Prim.Native.Nat.{◌-◌, ◌<◌}
-use mathlib.Core.Path.{◌≡◌, refl}
-use lib.ListN.{length}
-use Rattle.rules.specs.Table.{decode}
-use Rattle.size_fields.specs.SizeStarts.{SizeStarts}
+use mathlib.Core.Path.{refl}
 use Rattle.size_fields.proofs.starts.Laws.{later-within}
 use Rattle.size_fields.proofs.starts.set_starts.Goals as goal
 

@@ -1,12 +1,9 @@
 -- `size_fields::starts::set_starts` meets its contract: the places below q have their starts. Assumes nothing.
-use borrow.Author.Rules.{rules}
-use native.Mathlib.Omega.{arith}
 use Prim.Native.Nat.{◌-◌, ◌<◌}
-use mathlib.Core.Path.{◌≡◌, refl}
+use mathlib.Core.Path.{◌≡◌}
 use lib.ListN.{length}
 use Rattle.rules.specs.Table.{decode}
 use Rattle.size_fields.specs.SizeStarts.{SizeStarts}
-use Rattle.size_fields.proofs.starts.Laws.{later-within}
 use Rattle.size_fields.proofs.starts.set_starts.Given as goal
 
 abbrev pub invariant-loop-q : goal.invariant-loop-q

@@ -1,5 +1,4 @@
 -- `size_fields::starts::start_for` meets its contract. Assumes nothing.
-use borrow.Author.Rules.{rules}
 use native.Mathlib.Omega.{arith}
 use Prim.Native.Nat.{◌%◌}
 use Rattle.size_fields.proofs.starts.Laws.{start-before, start-at-end}

@@ -1,5 +1,4 @@
 -- `size_fields::starts::step` meets its contract. Assumes nothing.
-use borrow.Author.Rules.{rules}
 use mathlib.Core.Path.{sym, ◌∙◌}
 use Rattle.size_fields.proofs.starts.Laws.{later-decl, later-other}
 use Rattle.size_fields.proofs.starts.step.Goals as goal

@@ -1,5 +1,4 @@
 -- `size_fields::targets::is_sized` meets its contract. Assumes nothing.
-use borrow.Author.Rules.{rules}
 use Rattle.size_fields.proofs.targets.is_sized.Goals as goal
 
 pub returns : goal.returns

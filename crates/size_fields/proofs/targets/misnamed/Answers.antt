@@ -1,5 +1,4 @@
 -- `size_fields::targets::misnamed` meets its contract: each way out is a case of the definition. Assumes nothing.
-use borrow.Author.Rules.{rules}
 use mathlib.Core.Path.{sym, ◌∙◌}
 use Rattle.rules.specs.SizeFields.{misnamed}
 use Rattle.size_fields.proofs.targets.misnamed.Goals as goal

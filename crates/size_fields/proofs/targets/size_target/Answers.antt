@@ -1,7 +1,5 @@
 -- `size_fields::targets::size_target` meets its contract. Assumes nothing.
-use borrow.Author.Rules.{rules}
 use native.Mathlib.Omega.{arith}
-use borrow.Author.Tests.{not-true, not-false}
 use mathlib.Core.Path.{sym, ◌∙◌}
 use Rattle.rules.specs.SizeFields.{size_target}
 use Rattle.size_fields.proofs.duplicates.Laws.{size-kind}
