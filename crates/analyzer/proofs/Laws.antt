@@ -7,7 +7,7 @@ use borrow.Author.Tests.{ltb-false}
 use native.Mathlib.Omega.{arith}
 use lib.ListN.{length}
 use lib.Dec.{eqb, ltb}
-use Rattle.rules.specs.Choice.{if◌then◌else◌}
+use Rattle.std.specs.Prelude.{if◌then◌else◌}
 use Rattle.rules.specs.Table.{decode, record_length, most_records}
 use Rattle.rules.specs.Places.{first}
 use Rattle.rules.specs.Layouts.{layout, unsound_at, if_found}

@@ -1,6 +1,5 @@
 -- The bounds of an enum's ranges, and how many of the ranges hold a value.
-use Rattle.std.specs.Prelude.{ℕ, ◌+◌, ◌≤◌, ◌≡◌, List, [], ◌∷◌, map, Bool, ◌&&◌, length, take, leb}
-use Rattle.rules.specs.Choice.{if◌then◌else◌}
+use Rattle.std.specs.Prelude.{ℕ, ◌+◌, ◌≤◌, ◌≡◌, List, [], ◌∷◌, map, Bool, ◌&&◌, length, take, leb, if◌then◌else◌}
 use Rattle.rules.specs.Table.{at}
 use Rattle.rules.specs.Sorts.{sorted}
 use Rattle.rules.specs.EnumDeclarations.{lesser, greater, ranges, before_at}

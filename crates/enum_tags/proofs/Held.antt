@@ -8,7 +8,8 @@ use native.Mathlib.Nat.{not-suc-le-zero, le_of_suc-le-suc, add-zero}
 use borrow.Author.Tests.{le-leb}
 use lib.Dec.{eqb, leb}
 use lib.ListN.{length, get_or, take, length-map}
-use Rattle.rules.specs.Choice.{if◌then◌else◌, when}
+use Rattle.std.specs.Prelude.{if◌then◌else◌}
+use Rattle.rules.specs.Choice.{when}
 use Rattle.rules.specs.Table.{at}
 use Rattle.rules.specs.Places.{each}
 use Rattle.rules.specs.Faults.{single}

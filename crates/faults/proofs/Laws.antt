@@ -4,6 +4,7 @@ use lib.ListN.{length, take, drop, length-append, length-take, length-drop}
 use lib.Seq.{take_all, take-append-le, take_at, drop-append-add, drop-drop}
 use native.Mathlib.Omega.{arith}
 use native.Mathlib.Decide.{dec_lt}
+use Rattle.std.specs.Prelude.{if◌then◌else◌}
 use Rattle.rules.specs.Bytes.{bytes}
 use lib.Dec.{ltb}
 use native.Mathlib.Nat.{not-suc-le-zero, le_antisymm, le_of_eq, zero-add, min-eq_left, min-eq_right}
@@ -11,7 +12,6 @@ use borrow.Author.Tests.{lt-ltb, le-ltb}
 use mathlib.Core.Path.{◌≡◌, refl, sym, ap, subst, ◌∙◌}
 use mathlib.Core.List.{List, [], ◌∷◌, ◌++◌, foldl, foldl-append, append_assoc, append-nil}
 use mathlib.Core.Bool.{Bool, true, false}
-use Rattle.rules.specs.Choice.{if◌then◌else◌}
 use Rattle.rules.specs.Places.{each}
 use Rattle.rules.specs.Bytes.{written}
 use Rattle.rules.specs.Faults.{fault_bytes, faults_bytes, logged, Log, log}

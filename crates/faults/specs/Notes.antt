@@ -1,7 +1,6 @@
 -- The fault buffer fault by fault. `logged` of the rules is the closed form, which `noted-logged` (proofs/Laws.antt) shows equal.
-use Rattle.std.specs.Prelude.{ℕ, ◌+◌, ◌*◌, ltb}
+use Rattle.std.specs.Prelude.{ℕ, ◌+◌, ◌*◌, ltb, if◌then◌else◌}
 use mathlib.Core.List.{List, [], ◌∷◌, foldl}
-use Rattle.rules.specs.Choice.{if◌then◌else◌}
 use Rattle.rules.specs.Bytes.{written}
 use Rattle.rules.specs.Faults.{fault_length, fault_room, fault_bytes, Log, log}
 use Rattle.rules.specs.declared.Fault.{Fault}

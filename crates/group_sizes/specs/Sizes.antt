@@ -1,6 +1,5 @@
 -- Sizes by place of a declaration: how many records stand behind it once its groups are inlined, saturated at 1,601.
-use Rattle.std.specs.Prelude.{ℕ, zero, suc, ◌+◌, ◌-◌, ◌<◌, ◌≤◌, min, ◌≡◌, List, Bool, true, ◌&&◌, length, get_or, eqb}
-use Rattle.rules.specs.Choice.{if◌then◌else◌}
+use Rattle.std.specs.Prelude.{ℕ, zero, suc, ◌+◌, ◌-◌, ◌<◌, ◌≤◌, min, ◌≡◌, List, Bool, true, ◌&&◌, length, get_or, eqb, if◌then◌else◌}
 use Rattle.rules.specs.Kinds as kind
 use Rattle.rules.specs.Kinds.{is_decl}
 use Rattle.rules.specs.Table.{at}

@@ -1,6 +1,5 @@
 -- Records written one after another, and what the recursion over the groups needs and gives.
-use Rattle.std.specs.Prelude.{ℕ, ◌+◌, ◌*◌, ◌≤◌, ◌<◌, ◌≡◌, List, [], ◌∷◌, true, length, get_or, take}
-use Rattle.rules.specs.Choice.{if◌then◌else◌}
+use Rattle.std.specs.Prelude.{ℕ, ◌+◌, ◌*◌, ◌≤◌, ◌<◌, ◌≡◌, List, [], ◌∷◌, true, length, get_or, take, if◌then◌else◌}
 use Rattle.rules.specs.Bytes.{written}
 use Rattle.rules.specs.Table.{at, record_bytes, field_key}
 use Rattle.rules.specs.Places.{nearest, holds_at}

@@ -1,6 +1,5 @@
 -- The answer of inlining, and the bytes that it writes.
-use Rattle.std.specs.Prelude.{ℕ, ◌*◌, List, [], ◌∷◌, map, length, get_or, ltb}
-use Rattle.rules.specs.Choice.{if◌then◌else◌}
+use Rattle.std.specs.Prelude.{ℕ, ◌*◌, List, [], ◌∷◌, map, length, get_or, ltb, if◌then◌else◌}
 use Rattle.rules.specs.Bytes.{written}
 use Rattle.rules.specs.Table.{record_length, most_records, blank, encode, field_key}
 use Rattle.rules.specs.InlineGroups.{kept, record_of, first_unfit}

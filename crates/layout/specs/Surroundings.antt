@@ -1,6 +1,5 @@
 -- The kinds around a place, carried from place to place.
-use Rattle.std.specs.Prelude.{ℕ, List}
-use Rattle.rules.specs.Choice.{if◌then◌else◌}
+use Rattle.std.specs.Prelude.{ℕ, List, if◌then◌else◌}
 use Rattle.rules.specs.Kinds.{is_decl}
 use Rattle.rules.specs.Places.{nearest, holds_at}
 use Rattle.rules.specs.Layouts.{found_kind, kind_before}

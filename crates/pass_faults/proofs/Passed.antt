@@ -9,7 +9,7 @@ use native.Mathlib.Nat.{le_antisymm}
 use borrow.Author.Tests.{leb-true, eqb-true}
 use lib.Dec.{eqb, leb}
 use lib.ListN.{length}
-use Rattle.rules.specs.Choice.{if◌then◌else◌}
+use Rattle.std.specs.Prelude.{if◌then◌else◌}
 use Rattle.rules.specs.Places.{each, first}
 use Rattle.rules.specs.declared.Found.TheVariants.{Nothing}
 use Rattle.rules.specs.Table.{at}

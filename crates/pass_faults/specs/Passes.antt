@@ -1,6 +1,5 @@
 -- The definition that a pass number means. All of them read the table that they are given.
-use Rattle.std.specs.Prelude.{ℕ, List, [], eqb}
-use Rattle.rules.specs.Choice.{if◌then◌else◌}
+use Rattle.std.specs.Prelude.{ℕ, List, [], eqb, if◌then◌else◌}
 use Rattle.rules.specs.Scopes.{pass1_at, pass1}
 use Rattle.rules.specs.FieldIdentifiers.{pass3_at}
 use Rattle.rules.specs.EnumDeclarations.{pass4_at}

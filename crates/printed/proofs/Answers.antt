@@ -8,7 +8,7 @@ use lib.Dec.{ltb}
 use lib.ListN.{length, take, drop, length-append, length-drop}
 use lib.Seq.{take-append_seam}
 use borrow.Author.Tests.{ltb-false}
-use Rattle.rules.specs.Choice.{if◌then◌else◌}
+use Rattle.std.specs.Prelude.{if◌then◌else◌}
 use Rattle.rules.specs.Bytes.{written}
 use Rattle.rules.specs.Table.{record_length, most_records, decode, encode}
 use Rattle.rules.specs.Layouts.{layout}

@@ -8,7 +8,7 @@ use native.Mathlib.Omega.{arith}
 use lib.Dec.{eqb}
 use lib.ListN.{length}
 use borrow.Author.Tests.{ne_eqb}
-use Rattle.rules.specs.Choice.{if◌then◌else◌}
+use Rattle.std.specs.Prelude.{if◌then◌else◌}
 use Rattle.rules.specs.Printed.{decimal, line, record_line, fault_line, detail}
 use Rattle.rules.specs.Table.{record_at}
 use Rattle.rules.specs.Faults.{fault_at}

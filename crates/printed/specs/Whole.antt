@@ -1,6 +1,5 @@
 -- An answer whose records stand in its table.
-use Rattle.std.specs.Prelude.{ℕ, ◌*◌, ◌≤◌, length, get_or, eqb}
-use Rattle.rules.specs.Choice.{if◌then◌else◌}
+use Rattle.std.specs.Prelude.{ℕ, ◌*◌, ◌≤◌, length, get_or, eqb, if◌then◌else◌}
 use Rattle.rules.specs.Table.{record_length}
 use Rattle.rules.specs.Replies.{Numbered, Answer}
 

@@ -10,7 +10,7 @@ use lib.Dec.{ltb}
 use lib.ListN.{length, take, drop, get_or, set, length-append, length-take, take-append-drop}
 use lib.Seq.{set_split, append_snoc, length-take-le, take_at, take-suc, take_all, drop-append-add, drop-drop}
 use borrow.Author.Tests.{le-ltb, lt-ltb}
-use Rattle.rules.specs.Choice.{if◌then◌else◌}
+use Rattle.std.specs.Prelude.{if◌then◌else◌}
 use Rattle.rules.specs.Bytes.{written}
 use Rattle.rules.specs.Printed.{decimals, decimal, listing, line}
 use Rattle.printed_text.specs.TextAppended.{TextAppended}

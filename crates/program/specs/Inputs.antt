@@ -1,6 +1,5 @@
 -- Bytes that stand for an input: the input itself, or, if it is long, others that get the same reply.
-use Rattle.std.specs.Prelude.{◌≡◌, List, ℕ, ◌+◌, ◌-◌, ◌%◌, ◌≤◌, leb, length}
-use Rattle.rules.specs.Choice.{if◌then◌else◌}
+use Rattle.std.specs.Prelude.{◌≡◌, List, ℕ, ◌+◌, ◌-◌, ◌%◌, ◌≤◌, leb, length, if◌then◌else◌}
 use Rattle.program.specs.declared.input.Reading.{Reading}
 use Rattle.program.specs.declared.input.Reading.TheVariants.{End, Failed}
 

@@ -1,6 +1,5 @@
 -- Where the search for what a Size, Count or ElementSize names may start.
-use Rattle.std.specs.Prelude.{ℕ, ◌+◌, ◌%◌, ◌<◌, ◌≤◌, ◌≡◌, List, true, false, length, get_or, ltb}
-use Rattle.rules.specs.Choice.{if◌then◌else◌}
+use Rattle.std.specs.Prelude.{ℕ, ◌+◌, ◌%◌, ◌<◌, ◌≤◌, ◌≡◌, List, true, false, length, get_or, ltb, if◌then◌else◌}
 use Rattle.rules.specs.Kinds as kind
 use Rattle.rules.specs.Kinds.{is, is_decl}
 use Rattle.rules.specs.Table.{at, payload_name, body_name}

@@ -1,6 +1,5 @@
 -- The places that a walker passes. Assumes nothing.
-use Rattle.std.specs.Prelude.{ℕ, ◌+◌, List, length, ltb}
-use Rattle.rules.specs.Choice.{if◌then◌else◌}
+use Rattle.std.specs.Prelude.{ℕ, ◌+◌, List, length, ltb, if◌then◌else◌}
 use Rattle.rules.specs.declared.Record.{Record}
 
 -- the place behind p; past the end p stays

@@ -9,7 +9,7 @@ use native.Mathlib.Decide.{dec_le, ℕ_discrete}
 use lib.ListN.{length, take, drop, length-append}
 use lib.Seq.{length-take-le, take-length, take_at}
 use lib.Dec.{eqb}
-use Rattle.rules.specs.Choice.{if◌then◌else◌}
+use Rattle.std.specs.Prelude.{if◌then◌else◌}
 use Rattle.rules.specs.Bytes.{written}
 use Rattle.rules.specs.Table.{decode}
 use Rattle.rules.specs.Layouts.{layout, unsound_at, if_found}
