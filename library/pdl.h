@@ -1,8 +1,8 @@
 /* The C interface of the PDL analyzer (crates/pdl), for C99 and C++.
  *
- * Build the library with `rt staticlib pdl` and link target/staticlib/libpdl.a (x86-64 Linux). It calls nothing but memcpy and
+ * Build the library with `rt lib` in crates/pdl and link crates/pdl/out/libpdl.a (x86-64 Linux). It calls nothing but memcpy and
  * memset, keeps no state between calls, and takes no memory but the stack. The numbers of replies are those of numbered in
- * crates/rules/specs/Replies.antt and headerNumbers in crates/pdl/specs/Numbers.antt, which the contract of pdl_analyze cites.
+ * crates/rules/specs/Replies.antt and header_numbers in crates/pdl/specs/Numbers.antt, which the contract of pdl_analyze cites.
  *
  * A table is records of 40 bytes, little endian: byte 0 kind, 1 marks, 2-3 name, 4-5 second name, 6-7 third name, 8-15 number one,
  * 16-23 number two, 24-25 key, 28-29 start and 32-33 end of the source location; all other bytes are zero.
