@@ -12,7 +12,7 @@ use rules::limits::TABLE_LENGTH;
 use std::io::{Print, Read};
 
 // What a case is for, and its lengths.
-#[derive(Drop)]
+#[derive(Clone, Copy)]
 pub struct Case {
     pub part: u32,
     pub input: usize,
@@ -21,7 +21,7 @@ pub struct Case {
 }
 
 // A case whose input stands at the start of the buffer, or the end of the stored cases.
-#[derive(Drop)]
+#[derive(Clone, Copy)]
 pub enum Next {
     Read(Case),
     End,
