@@ -6,6 +6,18 @@ use Rattle.rules.specs.Table.{decode}
 use Rattle.group_sizes.proofs.Fields.{Seen}
 use Rattle.group_sizes.proofs.Measures.{sizing-start, sizing-next, sizing-end, target-in}
 use Rattle.group_sizes.proofs.size_after.Goals as goal
+use Rattle.group_sizes.proofs.size_after.Goals.{After-is_constraint_or_condition-c}
+
+-- the facts of a turn past its first tests
+seen : (c : After-is_constraint_or_condition-c) → Seen (decode c.args.table.now) c.loop-p.p c.kind-k.result c.is_constraint_or_condition-c.result
+seen c =
+    let e = c.kind-k.ensures in
+    record {
+      below = omega (arith, c.loop-p.invariant.1, c.loop-p-test.true);
+      inside = rw (← e) (sym c.is_decl.ensures ∙ c.if-is_decl.false);
+      is-kind = e;
+      is_bound = rw (← e) c.is_constraint_or_condition-c.ensures;
+    }
 
 pub loop-p-init : goal.loop-p-init
 loop-p-init c = (sizing-start _ _ _ _ c.requires.4, c.count-end.ensures)
@@ -17,14 +29,7 @@ returns-then-is_decl c =
 
 pub size_here-x-requires : goal.size_here-x-requires
 size_here-x-requires c =
-    let e = c.kind-k.ensures in
-    let h : Seen (decode c.args.table.now) c.loop-p.p c.kind-k.result c.is_constraint_or_condition-c.result =
-    record {
-      below = omega (arith, c.loop-p.invariant.1, c.loop-p-test.true);
-      inside = rw (← e) (sym c.is_decl.ensures ∙ c.if-is_decl.false);
-      is-kind = e;
-      is_bound = rw (← e) c.is_constraint_or_condition-c.ensures;
-    } in
+    let h = seen (goal.at.size_here-x-requires c).After-is_constraint_or_condition-c in
     (omega (arith, h.below, c.requires.1.long), target-in c.args.sizes.now c.requires.1 c.requires.2 h)
 
 pub overflow_add-s : goal.overflow_add-s
@@ -34,14 +39,7 @@ overflow_add-s c =
 pub loop-p-preserved : goal.loop-p-preserved
 loop-p-preserved c =
     let w = c.loop-p.invariant in
-    let e = c.kind-k.ensures in
-    let h : Seen (decode c.args.table.now) c.loop-p.p c.kind-k.result c.is_constraint_or_condition-c.result =
-    record {
-      below = omega (arith, c.loop-p.invariant.1, c.loop-p-test.true);
-      inside = rw (← e) (sym c.is_decl.ensures ∙ c.if-is_decl.false);
-      is-kind = e;
-      is_bound = rw (← e) c.is_constraint_or_condition-c.ensures;
-    } in
+    let h = seen (goal.at.loop-p-preserved c).After-is_constraint_or_condition-c in
     (sizing-next w.0 h (let o = c.size_here-x.type_inv in omega arith) c.size_here-x.ensures, w.1)
 
 pub returns : goal.returns
