@@ -1,9 +1,4 @@
-pub mod Reachability
-pub mod Accepts
-pub mod Topological
-pub mod Promise
 pub mod Copies
 pub mod Room
 pub mod Checks
-pub mod Stretches
-pub mod Names
+pub mod Kept

@@ -1,2 +1,3 @@
 pub mod Splits
 pub mod Counts
+pub mod Written

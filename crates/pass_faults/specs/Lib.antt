@@ -1,3 +1,0 @@
-pub mod Passes
-pub mod Known
-pub mod Passed
