@@ -1,19 +1,19 @@
 -- The inlined table, and the table written with one buffer or another. Assumes nothing.
 use Prim.Native.Nat.{ℕ, ◌*◌, ◌<◌, ◌≤◌}
-use mathlib.Core.Path.{◌≡◌, refl, ap, ◌∙◌}
-use mathlib.Core.List.{List}
+use mathlib.Core.Path.{◌≡◌, refl, sym, ap, ◌∙◌}
+use mathlib.Core.List.{List, map}
 use native.Mathlib.Omega.{arith}
 use native.Mathlib.Decide.{dec_lt}
 use lib.ListN.{length, take, get_or, length-take}
 use Rattle.rules.specs.Table.{decode}
-use Rattle.rules.specs.InlineGroups.{inlined}
+use Rattle.rules.specs.InlineGroups.{inlined, record_of}
 use Rattle.rules.specs.Replies.{answered, flagged, by_size}
 use Rattle.rules.specs.declared.Record.{Record}
 use Rattle.rules.specs.declared.Reply.{Reply}
 use Rattle.rules.specs.declared.Reply.TheVariants.{Swollen, Unfit}
 use Rattle.rules.specs.declared.FieldKey.{FieldKey}
 use Rattle.table.proofs.Laws.{length-decode}
-use Rattle.inline_groups.specs.Inlinings.{inlining_outcome, inlined_into}
+use Rattle.inline_groups.specs.Inlinings.{inlining, inlining_bytes}
 use Rattle.inline_groups.specs.declared.Inlining.{Inlining}
 use Rattle.inline_groups.specs.declared.Inlining.TheVariants as inlinings
 use Rattle.inline_groups.proofs.ReadBack.{reply-swollen, reply-unfit, reply-inlined, few-records, read-records, enough-room}
@@ -21,38 +21,41 @@ use Rattle.accepted_table.specs.Wrote.{Wrote}
 use Rattle.accepted_table.specs.declared.TableWritten.{TableWritten}
 use Rattle.accepted_table.specs.declared.TableWritten.TheVariants.{Done, Short}
 
--- the inlined table, in a buffer b
-module _ (rs : List Record) (b : List ℕ) (x : Inlining) {b' : List ℕ} (e : inlining_outcome x b' ≡ inlined_into b (inlined rs)) (t : List ℕ) where
-  pub told-swollen : x ≡ inlinings.Swollen → Wrote (length b) rs t t (Done Swollen)
+-- the inlined table
+module _ (rs : List Record) (m : ℕ) {x : Inlining} (e : x ≡ inlining m (inlined rs)) (t : List ℕ) where
+  pub told-swollen : x ≡ inlinings.Swollen → Wrote m rs t t (Done Swollen)
   unfolding Wrote
-  told-swollen h f = reply-swollen b (inlined rs) x e t f h
+  told-swollen h f = reply-swollen m (inlined rs) t f (sym e ∙ h)
 
-  pub told-short : x ≡ inlinings.BufferShort → Wrote (length b) rs t t Short
+  pub told-short : x ≡ inlinings.BufferShort → Wrote m rs t t Short
   unfolding Wrote
-  told-short h = (refl, go (dec_lt (length b) 64000))
+  told-short h = (refl, go (dec_lt m 64000))
     where
-      go : Dec (length b < 64000) → length b < 64000
+      go : Dec (m < 64000) → m < 64000
       go (yes z) = z
-      go (no z) = absurd (enough-room b (inlined rs) x e (omega (arith, z)) h)
+      go (no z) = absurd (enough-room m (inlined rs) (omega (arith, z)) (sym e ∙ h))
 
-  pub told-unfit : (k : FieldKey) → x ≡ inlinings.Unfit k → Wrote (length b) rs t t (Done (Unfit k))
+  pub told-unfit : (k : FieldKey) → x ≡ inlinings.Unfit k → Wrote m rs t t (Done (Unfit k))
   unfolding Wrote
-  told-unfit k h f = reply-unfit b (inlined rs) x e t f k h
+  told-unfit k h f = reply-unfit m (inlined rs) t f k (sym e ∙ h)
 
 -- what flags require of a part of the buffer
 pub part-few : (b : List ℕ) {k m : ℕ} → k ≤ m → k ≤ 64000 → length (decode (take k b)) ≤ 1600
 part-few b {k} h g = omega (arith, length-decode (take k b), length-take k b)
 
 -- read back from the bytes that inlining wrote
-module _ (t : List ℕ) (small : (i : ℕ) → get_or t i 0 < 256) (b : List ℕ) {x : Inlining} {b' : List ℕ} (e : inlining_outcome x b' ≡ inlined_into b (inlined (decode t)))
-    (n : ℕ) (h : x ≡ inlinings.Inlined n) where
+module _ (t : List ℕ) (small : (i : ℕ) → get_or t i 0 < 256) {x : Inlining} (b : List ℕ) (e : x ≡ inlining (length b) (inlined (decode t)))
+    {b' : List ℕ} (w : b' ≡ inlining_bytes b (inlined (decode t))) (n : ℕ) (h : x ≡ inlinings.Inlined n) where
+  read_back : decode (take (40 * n) b') ≡ map record_of (inlined (decode t))
+  read_back = rw w (read-records t small b n (sym e ∙ h))
+
   pub inlined-few : (n ≤ 1600) × (n ≡ length (inlined (decode t))) × (40 * n ≤ length b)
-  inlined-few = few-records b (inlined (decode t)) x e n h
+  inlined-few = few-records (length b) (inlined (decode t)) n (sym e ∙ h)
 
   pub told-inlined : (o : List ℕ) (r : Reply) {o' : List ℕ}
       → ((f : List ℕ) → answered r o' f ≡ flagged (decode (take (40 * n) b')) o f) → Wrote (length b) (decode t) o o' (Done r)
   unfolding Wrote
-  told-inlined o r d f = (rw (read-records t small b e n h) at (d f)) ∙ reply-inlined b (inlined (decode t)) x e n h o f
+  told-inlined o r d f = (rw read_back at (d f)) ∙ reply-inlined (length b) (inlined (decode t)) o f n (sym e ∙ h)
 
 -- the table, written with a buffer of m bytes
 module _ (m : ℕ) (rs : List Record) (t t' : List ℕ) (x : TableWritten) (w : Wrote m rs t t' x) where

@@ -1,10 +1,46 @@
 // The analyzer: the rows of the table of replies, first match from the top.
 #![tactic(auto)]
 
-ghost use Rattle.std.specs.Prelude.{◌≡◌};
-ghost use Rattle.rules.specs.Replies.{answered, answer};
+ghost use Rattle.std.specs.Prelude.{◌≡◌, ◌≤◌, length};
+ghost use Rattle.rules.specs.Table.{decode};
+ghost use Rattle.rules.specs.Replies.{answered, by_passes, answer};
 
+use passes::check_passes;
+use rules::limits::{RECORD_LENGTH, TABLE_LENGTH};
 use rules::{Layout, Reply};
+use table::FEW_RECORDS;
+
+// The bytes of a table of few records.
+const FEW_LENGTH: usize = RECORD_LENGTH * FEW_RECORDS;
+
+// With a listed table of its own, as are those for the inlined table: the caller's buffer changes only on acceptance.
+fn check_small(input: &[u8], table: &mut [u8], faults: &mut [u8]) -> Reply
+    requires { length (decode input.now) ≤ 64 }
+    ensures { answered result table.new faults.new ≡ by_passes (decode input.now) table.old faults.old }
+{
+    let mut listed = [0u8; FEW_LENGTH];
+    check_passes(input, &mut listed, table, faults)
+}
+
+// The same for the longest tables.
+fn check_large(input: &[u8], table: &mut [u8], faults: &mut [u8]) -> Reply
+    requires { length (decode input.now) ≤ 1600 }
+    ensures { answered result table.new faults.new ≡ by_passes (decode input.now) table.old faults.old }
+{
+    let mut listed = [0u8; TABLE_LENGTH];
+    check_passes(input, &mut listed, table, faults)
+}
+
+// The passes with buffers as large as the table needs.
+fn check_table(input: &[u8], table: &mut [u8], faults: &mut [u8]) -> Reply
+    requires { length (decode input.now) ≤ 1600 }
+    ensures { answered result table.new faults.new ≡ by_passes (decode input.now) table.old faults.old }
+{
+    if FEW_RECORDS < table::count(input) {
+        return check_large(input, table, faults);
+    }
+    check_small(input, table, faults)
+}
 
 // Analyzes a table: the reply, the accepted table at the start of one buffer or the first faults in the other.
 pub fn analyze(input: &[u8], table: &mut [u8], faults: &mut [u8]) -> Reply
@@ -14,6 +50,6 @@ pub fn analyze(input: &[u8], table: &mut [u8], faults: &mut [u8]) -> Reply
         Layout::Uneven => Reply::Uneven,
         Layout::TooLong => Reply::TooLong,
         Layout::Malformed(place) => Reply::Malformed(place),
-        Layout::Sound => passes::check_passes(input, table, faults),
+        Layout::Sound => check_table(input, table, faults),
     }
 }

@@ -4,13 +4,12 @@
 ghost use Rattle.std.specs.Prelude.{◌≡◌};
 ghost use Rattle.rules.specs.Table.{decode};
 ghost use Rattle.rules.specs.Places.{first_within};
-ghost use Rattle.rules.specs.Faults.{log, logged};
-ghost use Rattle.rules.specs.ArrayFields.{redundant_size, pass8_at, pass8};
+ghost use Rattle.rules.specs.ArrayFields.{redundant_size, pass8_at};
 ghost use Rattle.rules.specs.declared.Target.TheVariants.{SizeOrDecl};
 ghost use Rattle.faults.specs.Notes.{findings};
 
 use faults::Finding;
-use rules::{Found, Tally, Target, codes};
+use rules::{Found, Target, codes};
 
 // The first Size or Count of this name in the declaration that `place` stands in.
 fn first_size(table: &[u8], name: u16, place: usize) -> Found
@@ -38,7 +37,7 @@ fn redundant_size(table: &[u8], place: usize, found: Found) -> Finding
     }
 }
 
-fn at_place(table: &[u8], place: usize) -> Finding
+pub fn at_place(table: &[u8], place: usize) -> Finding
     ensures { findings result ≡ pass8_at (decode table.now) place }
 {
     let r = records::at(table, place);
@@ -46,18 +45,4 @@ fn at_place(table: &[u8], place: usize) -> Finding
         return redundant_size(table, place, first_size(table, r.name, place));
     }
     Finding::None
-}
-
-// All faults of the pass.
-pub fn check_array_fields(table: &[u8], buffer: &mut [u8]) -> Tally
-    ensures { log result buffer.new ≡ logged buffer.old (pass8 (decode table.now)) }
-{
-    let n = table::count(table);
-    let mut tally = faults::no_faults();
-    let mut p = walker::next_of(table, kinds::ARRAYS, 0);
-    while p < n {
-        tally = faults::notes::note_found(tally, buffer, at_place(table, p));
-        p = walker::next_of(table, kinds::ARRAYS, p + 1);
-    }
-    tally
 }

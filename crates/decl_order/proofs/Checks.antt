@@ -10,16 +10,16 @@ use Rattle.rules.specs.Bytes.{written}
 use Rattle.rules.specs.Table.{decode}
 use Rattle.rules.specs.Faults.{Log, log, logged}
 use Rattle.rules.specs.DeclIdentifiers.{visited, fault_of, pass2, order, ordered, all_records}
+use Rattle.rules.specs.Ordering.{Accepts}
 use Rattle.rules.specs.declared.Fault.{Fault}
 use Rattle.faults.specs.Notes.{no_faults}
 use Rattle.faults.proofs.Laws.{noted-logged, total-after}
-use Rattle.ordering.specs.Ordering.{Accepts}
-use Rattle.ordering.proofs.Promise.{listed-declared}
 use Rattle.decl_visits.specs.declared.VisitProgress.{VisitProgress}
 use Rattle.decl_order.specs.declared.OrderResult.{OrderResult}
 use Rattle.decl_visits.specs.Contract.{StateHeld}
 use Rattle.decl_visits.proofs.Loop.{order-read, order-short}
 use Rattle.decl_order.specs.Contract.{Placed, ListedAtStart, DeclIdentifiersChecked, all_bytes}
+use Rattle.decl_order.proofs.Promise.{listed-declared}
 use Rattle.decl_order.proofs.Copies.{all-length, all-decode}
 use Rattle.decl_order.proofs.Room.{ordered-short}
 
@@ -114,8 +114,5 @@ module _ (t b out b' out' : List ℕ) (r : OrderResult) (h : DeclIdentifiersChec
   unfolding logged
   checked-total = ap (λ (l : Log). l.tally.total) h.faults
 
-  pub checked-accepts : r.tally.total ≡ 0 → Accepts (decode t)
-  checked-accepts z = none_found (pass2 (decode t)) (sym checked-total ∙ z)
-
   pub checked-ordered : r.tally.total ≡ 0 → ListedAtStart t out out' r.records
-  checked-ordered z = h.accepted (checked-accepts z)
+  checked-ordered z = h.accepted (none_found (pass2 (decode t)) (sym checked-total ∙ z))

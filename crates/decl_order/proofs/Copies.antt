@@ -10,15 +10,16 @@ use lib.ListN.{length, get_or, take, drop, length-append, length-drop, take-appe
 use lib.Seq.{length-take-le, take_at, drop_at, take-suc, take-add, drop-append-le, get_or-take}
 use Rattle.rules.specs.Bytes.{number_at, written}
 use Rattle.rules.specs.Table.{record_at, records, decode}
-use Rattle.rules.specs.Places.{member_count}
+use Rattle.rules.specs.Places.{holds_at, first_from, member_count}
 use Rattle.rules.specs.DeclIdentifiers.{decl_records, all_records}
 use Rattle.rules.specs.declared.Record.{Record}
-use Rattle.table.proofs.Laws.{length-decode}
+use Rattle.rules.specs.declared.Found.TheVariants.{At, Nothing}
+use Rattle.rules.specs.declared.Target.TheVariants.{Decl}
+use Rattle.table.proofs.Laws.{length-decode, first-in}
 use Rattle.search.proofs.members.Laws.{members-in}
 use Rattle.store.proofs.Laws.{length-written, written-more}
-use Rattle.ordering.proofs.Distinct.{mem-at}
-use Rattle.ordering.proofs.Stretches.{decl-length}
 use Rattle.decl_order.specs.Contract.{decl_bytes, all_bytes, Placed}
+use Rattle.decl_order.proofs.Topological.{mem-at}
 
 -- ---- a table in two parts
 
@@ -61,11 +62,27 @@ module _ (t : List ℕ) (d : ℕ) (h : 40 * d ≤ length t) where
   decode-drop : decode (drop (40 * d) t) ≡ drop d (decode t)
   decode-drop = sym (ap (drop d) decode-split ∙ drop_at (decode (take (40 * d) t)) (decode (drop (40 * d) t)) d decoded)
 
--- ---- the bytes of a declaration
+-- ---- the records of a declaration
+
+module _ (rs : List Record) (d : ℕ) where
+  pub count-to : (e : ℕ) → first_from rs Decl (d + 1) ≡ At e → (d < e) × (e - d ≡ 1 + member_count rs d)
+  unfolding member_count
+  count-to e h = let z = first-in (holds_at rs Decl) (length rs) (d + 1) e h in let l = z.0 in (omega arith, rw h (omega arith))
+
+  pub count-rest : d < length rs → first_from rs Decl (d + 1) ≡ Nothing → length rs - d ≡ 1 + member_count rs d
+  unfolding member_count
+  count-rest l h = rw h (omega arith)
+
+  pub count_fits : d < length rs → d + (1 + member_count rs d) ≤ length rs
+  count_fits l = omega (arith, members-in rs d l)
+
+  pub decl-length : d < length rs → length (decl_records rs d) ≡ 1 + member_count rs d
+  unfolding decl_records
+  decl-length l = length-take-le (1 + member_count rs d) (drop d rs) (omega (arith, count_fits l, length-drop d rs))
 
 module _ (t : List ℕ) (d : ℕ) (l : d < length (decode t)) where
   place_in : 40 * (d + (1 + member_count (decode t) d)) ≤ length t
-  place_in = omega (arith, members-in (decode t) d l, length-decode t)
+  place_in = omega (arith, count_fits (decode t) d l, length-decode t)
 
   bytes-length : length (decl_bytes t d) ≡ 40 * (1 + member_count (decode t) d)
   unfolding decl_bytes
@@ -79,7 +96,7 @@ module _ (t : List ℕ) (d : ℕ) (l : d < length (decode t)) where
 
 -- ---- the records of listed declarations
 
-records-snoc : (rs : List Record) (l : List ℕ) (d : ℕ) → all_records rs (l ++ d ∷ []) ≡ all_records rs l ++ decl_records rs d
+pub records-snoc : (rs : List Record) (l : List ℕ) (d : ℕ) → all_records rs (l ++ d ∷ []) ≡ all_records rs l ++ decl_records rs d
 unfolding all_records
 records-snoc rs [] d = append-nil (decl_records rs d)
 records-snoc rs (x ∷ l) d = ap (λ (y : List Record). decl_records rs x ++ y) (records-snoc rs l d) ∙ sym (append_assoc (decl_records rs x) (all_records rs l) (decl_records rs d))

@@ -1,4 +1,9 @@
+pub mod Reachability
+pub mod Accepts
+pub mod Topological
+pub mod Promise
 pub mod Copies
 pub mod Room
 pub mod Checks
-pub mod Kept
+pub mod Stretches
+pub mod Names

@@ -6,9 +6,9 @@ use Rattle.rules.specs.Bytes.{written}
 use Rattle.rules.specs.Places.{member_count}
 use Rattle.rules.specs.Faults.{log, logged}
 use Rattle.rules.specs.DeclIdentifiers.{pass2, order, ordered, all_records}
+use Rattle.rules.specs.Ordering.{Accepts}
 use Rattle.rules.specs.declared.Record.{Record}
 use Rattle.declarations.specs.Starts.{Starts}
-use Rattle.ordering.specs.Ordering.{Accepts}
 use Rattle.decl_order.specs.declared.OrderResult.{OrderResult}
 
 -- the bytes of the declarations at these places, in this order, unchanged

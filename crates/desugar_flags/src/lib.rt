@@ -8,7 +8,8 @@ ghost use Rattle.rules.specs.Replies.{answered, fitted, flagged};
 ghost use Rattle.flag_sizes.specs.Counts.{Counted};
 
 use rules::limits::{MOST_RECORDS, RECORD_LENGTH};
-use rules::{Found, Reply};
+use rules::{FieldKey, Found, Reply};
+use table::REMAINDERS;
 
 // Whether a condition without a named field or without a value stands at `place`.
 fn loose_at(table: &[u8], place: usize) -> bool
@@ -64,11 +65,12 @@ pub fn desugar_flags(table: &[u8], out: &mut [u8]) -> Reply
     match find_loose(table) {
         Found::At(q) => {
             let field = records::at(table, flag_sizes::conditions::place_before(q));
-            Reply::Loose(records::field_key(field))
+            Reply::Loose(FieldKey(field.key))
         }
         Found::Nothing => {
+            let mut marks = [0u16; REMAINDERS];
             let mut counts = [0u16; MOST_RECORDS];
-            let n = flag_sizes::total(table, &mut counts);
+            let n = flag_sizes::total(table, &mut marks, &mut counts);
             fitted(table, n, &counts, out)
         }
     }

@@ -4,17 +4,16 @@
 pub mod range;
 
 ghost use Rattle.std.specs.Prelude.{◌≡◌, ◌≤◌, leb, length, take};
-ghost use Rattle.rules.specs.Bytes.{written};
 ghost use Rattle.rules.specs.Table.{decode};
 ghost use Rattle.enum_bounds.specs.Bounds.{one_if, count_of, holders, lows_of, highs_of};
 ghost use Rattle.enum_bounds.specs.Order.{Ascending, Split};
 
 use range::{greater, lesser};
 
-// The bounds of the ranges at the first `count` places of `places`, as the first numbers of lows and highs.
+// The bounds of the ranges at the first `count` places of `places`.
 pub fn fill(table: &[u8], places: &[u16], count: usize, lows: &mut [u64], highs: &mut [u64])
     requires { (count ≤ length places.now) × (count ≤ length lows.old) × (count ≤ length highs.old) }
-    ensures { (lows.new ≡ written lows.old 0 (lows_of (decode table.now) (take count places.now))) × (highs.new ≡ written highs.old 0 (highs_of (decode table.now) (take count places.now))) }
+    ensures { (take count lows.new ≡ lows_of (decode table.now) (take count places.now)) × (take count highs.new ≡ highs_of (decode table.now) (take count places.now)) }
 {
     let mut j = 0;
     while j < count {

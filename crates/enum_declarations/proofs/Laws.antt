@@ -9,16 +9,23 @@ use lib.Dec.{eqb}
 use lib.ListN.{length, get_or, length-append}
 use Rattle.rules.specs.Table.{at}
 use Rattle.rules.specs.Places.{first, each, holds_at, up_to, member_count}
-use Rattle.rules.specs.EnumDeclarations.{tag_faults, tags_faults, overlap, overlaps, enum_faults, pass4_at}
+use Rattle.rules.specs.Sorts.{sorted}
+use Rattle.rules.specs.EnumDeclarations.{tag_faults, tags_faults, range_at, ranges, before_at, overlap, overlaps, enum_faults, pass4_at}
 use Rattle.rules.specs.declared.Record.{Record}
 use Rattle.rules.specs.declared.Found.{Found}
 use Rattle.rules.specs.declared.Found.TheVariants.{At, Nothing}
 use Rattle.rules.specs.declared.Target.TheVariants.{Decl}
-use Rattle.table.proofs.Laws.{each_more, each-few, first-in, if-few}
-use Rattle.enum_ranges.specs.Arranged.{sorted_ranges}
-use Rattle.enum_ranges.proofs.Laws.{ranges-few}
+use Rattle.table.proofs.Laws.{each_more, each-few, first-in, if-few, when-few}
+use Rattle.enum_ranges.proofs.Sorts.{length-sorted}
 use Rattle.enum_ranges.proofs.overlaps.Laws.{overlap-few}
 use Rattle.enum_tags.proofs.Laws.{tag-few}
+
+range-few-at : (rs : List Record) (q : ℕ) → length (range_at rs q) ≤ 1
+range-few-at rs q = when-few (eqb (at rs q).kind 41) q
+
+ranges-few : (rs : List Record) (d n : ℕ) → length (ranges rs d n) ≤ n
+unfolding ranges
+ranges-few rs d n = omega (arith, each-few (λ i. range_at rs (d + 1 + i)) 1 n (λ i. range-few-at rs (d + 1 + i)))
 
 overlaps-few : (rs : List Record) (ps : List ℕ) → length (overlaps rs ps) ≤ length ps
 unfolding overlaps
@@ -32,7 +39,7 @@ enum-few : (rs : List Record) (d n : ℕ) → n ≤ 1600 → length (enum_faults
 unfolding enum_faults
 enum-few rs d n h =
     simp length-append
-    (omega (arith, tags-few rs d n h, overlaps-few rs (sorted_ranges rs d n), ranges-few rs d n))
+    (omega (arith, tags-few rs d n h, overlaps-few rs (sorted (before_at rs) (ranges rs d n)), length-sorted (before_at rs) (ranges rs d n), ranges-few rs d n))
 
 count-few : (rs : List Record) (d : ℕ) → member_count rs d ≤ length rs
 unfolding member_count

@@ -1,11 +1,12 @@
 -- Laws of one tag: how many faults it can have, and the range that the next one belongs to. Assumes nothing.
 use Prim.Native.Nat.{ℕ, ◌+◌, ◌≤◌}
-use mathlib.Core.Path.{◌≡◌, refl}
+use mathlib.Core.Path.{◌≡◌}
 use mathlib.Core.List.{List, ◌++◌}
-use mathlib.Core.Bool.{Bool, true, false, ◌||◌}
+use mathlib.Core.Bool.{◌||◌}
 use native.Mathlib.Omega.{arith}
 use native.Mathlib.Numerals.{add-one}
 use native.Mathlib.Nat.{le_trans}
+use borrow.Author.Tests.{ne_eqb}
 use lib.Dec.{eqb, ltb, leb}
 use lib.ListN.{length, length-append}
 use Rattle.rules.specs.Table.{at}
@@ -20,7 +21,7 @@ use Rattle.rules.specs.declared.Found.TheVariants.{At, Nothing}
 use Rattle.rules.specs.declared.Target.{Target}
 use Rattle.rules.specs.declared.Target.TheVariants.{TagOrDecl, ValueOrDecl, DefaultOrDecl}
 use Rattle.table.proofs.Laws.{each-few, if-few, when-few}
-use Rattle.enum_tags.specs.Before.{range_before, after_range}
+use Rattle.enum_tags.specs.Before.{range_before}
 
 repeated-few : (code : ℕ) (rs : List Record) (p : ℕ) (x : Found) → length (repeated code rs p x) ≤ 1
 unfolding repeated
@@ -79,10 +80,6 @@ unfolding tag_faults
 tag-value rs d n p e = rw e
 
 -- the range that a value belongs to, one place further on
-pub before-range : (rs : List Record) (after p r : ℕ) → range_before rs p ≡ range_before rs after → r ≡ after_range rs after p → range_before rs (p + 1) ≡ range_before rs r
+pub before-range : (rs : List Record) (p : ℕ) → ((at rs p).kind ≡ 41 → ⊥) → range_before rs (p + 1) ≡ range_before rs p
 unfolding nearest
-before-range rs after p r e h = go (eqb (at rs p).kind 41) refl
-  where
-    go : (b : Bool) → eqb (at rs p).kind 41 ≡ b → range_before rs (p + 1) ≡ range_before rs r
-    go true k = rw (h, k)
-    go false k = rw (h, k, add-one, nearest, k) e
+before-range rs p h = rw (add-one, nearest, ne_eqb _ _ h)

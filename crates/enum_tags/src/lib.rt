@@ -10,7 +10,7 @@ ghost use Rattle.faults.specs.Notes.{findings, noted_all};
 ghost use Rattle.repeats.specs.Marks.{Marked};
 ghost use Rattle.repeats.specs.declared.marks.Compared.TheVariants.{TagNames};
 ghost use Rattle.enum_bounds.specs.Bounds.{Bounds};
-ghost use Rattle.enum_tags.specs.Before.{range_before, after_range};
+ghost use Rattle.enum_tags.specs.Before.{range_before};
 ghost use Rattle.enum_tags.specs.Tags.{TagsMarked, CheckingTag};
 
 use enum_bounds::holders;
@@ -204,10 +204,10 @@ fn note_inner(
     )
 }
 
-// Where no range stands from `after` up to `place`, none stands from the result up to the next place.
+// Where no range stands from `after` up to `place`, the same for the next place.
 pub fn after_range(table: &[u8], after: usize, place: usize) -> usize
-    requires { place < 1600 }
-    ensures { result ≡ after_range (decode table.now) after place }
+    requires { (place < 1600) × (range_before (decode table.now) place ≡ range_before (decode table.now) after) }
+    ensures { range_before (decode table.now) (place + 1) ≡ range_before (decode table.now) result }
 {
     if table::kind(table, place) == kinds::TAG_RANGE {
         return place + 1;

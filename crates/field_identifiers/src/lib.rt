@@ -1,7 +1,7 @@
 // Pass 3, `check_field_identifiers`: code 11 at a field whose name an earlier field of the declaration has.
 #![tactic(auto)]
 
-ghost use Rattle.std.specs.Prelude.{◌≡◌, ◌+◌, ◌^◌, ◌<◌, ◌≤◌, length};
+ghost use Rattle.std.specs.Prelude.{◌≡◌, ◌+◌, ◌^◌, ◌<◌, ◌≤◌};
 ghost use Rattle.rules.specs.Table.{decode};
 ghost use Rattle.rules.specs.Faults.{log, logged};
 ghost use Rattle.rules.specs.FieldIdentifiers.{pass3_at, pass3};
@@ -11,10 +11,9 @@ ghost use Rattle.repeats.specs.declared.marks.Compared.TheVariants.{FieldNames};
 
 use faults::Finding;
 use repeats::marks::Compared;
-use rules::limits::MOST_RECORDS;
 use rules::{Tally, codes};
 
-fn at_place(table: &[u8], names: &[u8], place: usize) -> Finding
+pub fn at_place(table: &[u8], names: &[u8], place: usize) -> Finding
     requires { Marked (decode table.now) FieldNames names.now }
     ensures { findings result ≡ pass3_at (decode table.now) place }
 {
@@ -43,8 +42,8 @@ fn note_at(table: &[u8], names: &[u8], place: usize, tally: Tally, buffer: &mut 
     faults::notes::note_found(tally, buffer, at_place(table, names, place))
 }
 
-// All faults of the pass, with the marks of the fields that may repeat a name.
-fn check_places(table: &[u8], names: &[u8], buffer: &mut [u8]) -> Tally
+// All faults of the pass.
+pub fn check_field_identifiers(table: &[u8], names: &[u8], buffer: &mut [u8]) -> Tally
     requires { Marked (decode table.now) FieldNames names.now }
     ensures { log result buffer.new ≡ logged buffer.old (pass3 (decode table.now)) }
 {
@@ -56,25 +55,4 @@ fn check_places(table: &[u8], names: &[u8], buffer: &mut [u8]) -> Tally
         p += 1;
     }
     tally
-}
-
-// All faults of the pass in a table whose marks have room in an array.
-fn check_marked(table: &[u8], buffer: &mut [u8]) -> Tally
-    requires { length (decode table.now) ≤ 1600 }
-    ensures { log result buffer.new ≡ logged buffer.old (pass3 (decode table.now)) }
-{
-    let mut names = [1u8; MOST_RECORDS];
-    repeats::marks::mark(table, Compared::FieldNames, &mut names);
-    check_places(table, &names, buffer)
-}
-
-// All faults of the pass. In a small table, where it would take longer to make marks, or one too long for them, each field is searched for.
-pub fn check_field_identifiers(table: &[u8], buffer: &mut [u8]) -> Tally
-    ensures { log result buffer.new ≡ logged buffer.old (pass3 (decode table.now)) }
-{
-    if declarations::starts::is_large(table) {
-        return check_marked(table, buffer);
-    }
-    let none = [0u8; 0];
-    check_places(table, &none, buffer)
 }

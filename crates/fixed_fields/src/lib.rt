@@ -3,15 +3,13 @@
 
 ghost use Rattle.std.specs.Prelude.{◌≡◌};
 ghost use Rattle.rules.specs.Table.{decode};
-ghost use Rattle.rules.specs.Faults.{log, logged};
-ghost use Rattle.rules.specs.FixedFields.{enum_fault, pass6_at, pass6};
+ghost use Rattle.rules.specs.FixedFields.{enum_fault, pass6_at};
 ghost use Rattle.faults.specs.Notes.{findings};
 ghost use Rattle.declarations.specs.Starts.{Starts};
 
 use faults::{Finding, when};
-use rules::{Found, Tally, Target, codes};
+use rules::{Found, Target, codes};
 use search::members::has_member;
-use table::{NO_PLACE, REMAINDERS};
 
 // 33, 34, 35 for a missing enum, a missing tag, no enum.
 fn enum_fault(table: &[u8], place: usize, found: Found) -> Finding
@@ -33,7 +31,7 @@ fn enum_fault(table: &[u8], place: usize, found: Found) -> Finding
     }
 }
 
-fn at_place(table: &[u8], starts: &[u16], place: usize) -> Finding
+pub fn at_place(table: &[u8], starts: &[u16], place: usize) -> Finding
     requires { Starts (decode table.now) starts.now }
     ensures { findings result ≡ pass6_at (decode table.now) place }
 {
@@ -53,32 +51,4 @@ fn at_place(table: &[u8], starts: &[u16], place: usize) -> Finding
         );
     }
     Finding::None
-}
-
-// All faults of the pass, with the starts that are known.
-fn check_places(table: &[u8], starts: &[u16], buffer: &mut [u8]) -> Tally
-    requires { Starts (decode table.now) starts.now }
-    ensures { log result buffer.new ≡ logged buffer.old (pass6 (decode table.now)) }
-{
-    let n = table::count(table);
-    let mut tally = faults::no_faults();
-    let mut p = walker::next_of(table, kinds::FIXED_FIELDS, 0);
-    while p < n {
-        tally = faults::notes::note_found(tally, buffer, at_place(table, starts, p));
-        p = walker::next_of(table, kinds::FIXED_FIELDS, p + 1);
-    }
-    tally
-}
-
-// All faults of the pass. In a small table, or one too long for the array, every search starts at the first record.
-pub fn check_fixed_fields(table: &[u8], buffer: &mut [u8]) -> Tally
-    ensures { log result buffer.new ≡ logged buffer.old (pass6 (decode table.now)) }
-{
-    if !declarations::starts::is_large(table) {
-        let none = [0u16; 0];
-        return check_places(table, &none, buffer);
-    }
-    let mut starts = [NO_PLACE; REMAINDERS];
-    declarations::starts::fill(table, &mut starts);
-    check_places(table, &starts, buffer)
 }

@@ -1,10 +1,9 @@
 -- Laws of the marks of conditions and of the counts kept by place. Assumes nothing.
-use Prim.Native.Nat.{ℕ, zero, suc, ◌+◌, ◌%◌, ◌<◌, ◌≤◌}
+use Prim.Native.Nat.{ℕ, ◌+◌, ◌%◌, ◌<◌, ◌≤◌}
 use mathlib.Core.Path.{◌≡◌, refl, sym, ap, ◌∙◌}
 use mathlib.Core.List.{List}
 use mathlib.Core.Bool.{Bool, true, false}
 use native.Mathlib.Omega.{arith}
-use native.Mathlib.Numerals.{add-one}
 use native.Mathlib.Decide.{dec_lt}
 use lib.Dec.{eqb}
 use borrow.Author.Tests.{ne_eqb, eqb-true, eqb-false}
@@ -16,7 +15,7 @@ use Rattle.rules.specs.Table.{at}
 use Rattle.rules.specs.DesugarFlags.{members_start, is_condition_on, entries_from, entries_of}
 use Rattle.rules.specs.declared.Record.{Record}
 use Rattle.table.proofs.Searches.{and-false}
-use Rattle.flag_sizes.specs.Counts.{ConditionsStamped, entry_count, with_counts, Counted}
+use Rattle.flag_sizes.specs.Counts.{ConditionsStamped, Counted}
 use Rattle.flag_sizes.proofs.Laws.{entries-decl, entries-end, entries-miss}
 
 -- ---- marks
@@ -59,27 +58,19 @@ module _ {rs : List Record} {marks : List ℕ} {a p : ℕ} (m : Stamping rs mark
 
 -- ---- counts
 
--- one count more
-pub counts-next : (rs : List Record) (counts₀ : List ℕ) (p : ℕ) {counts : List ℕ} {k a : ℕ} → counts ≡ with_counts rs counts₀ p → a ≡ members_start rs p
-    → k ≡ length (entries_of rs (at rs p) a) → set counts p k ≡ with_counts rs counts₀ (p + 1)
-unfolding with_counts
-counts-next rs counts₀ p e f g = rw (add-one p, with_counts, ← e, ← f, g)
+pub counted_start : (rs : List Record) (counts : List ℕ) → 1600 ≤ length counts → Counted rs counts 0
+counted_start rs counts h = record { long = h; known = λ q l. absurd (omega arith) }
 
-module _ (rs : List Record) where
-  counted-one : (counts : List ℕ) (p : ℕ) → p < 1600 → Counted rs counts p → Counted rs (set counts p (entry_count rs p)) (suc p)
-  counted-one counts p l m = record { long = rw (length-set counts p (entry_count rs p)) m.long; known = λ q h. go q h (dec_lt q p) }
+module _ {rs : List Record} {counts : List ℕ} {p : ℕ} (m : Counted rs counts p) where
+  pub counted-one : {k a : ℕ} → p < 1600 → a ≡ members_start rs p → k ≡ length (entries_of rs (at rs p) a) → Counted rs (set counts p k) (p + 1)
+  counted-one {k} l f e = record { long = rw (length-set counts p k) m.long; known = λ q h. go q h (dec_lt q p) }
     where
       inside : p < length counts
       inside = let h = m.long in omega arith
 
-      go : (q : ℕ) → q < suc p → Dec (q < p) → get_or (set counts p (entry_count rs p)) q 0 ≡ entry_count rs q
-      go q h (yes b) = get_or-set_other counts p q (entry_count rs p) 0 (omega arith) ∙ m.known q b
-      go q h (no b) = let d : q ≡ p = omega arith in rw d (get_or-set_same counts p (entry_count rs p) 0 inside)
+      go : (q : ℕ) → q < p + 1 → Dec (q < p) → get_or (set counts p k) q 0 ≡ length (entries_of rs (at rs q) (members_start rs q))
+      go q h (yes b) = get_or-set_other counts p q k 0 (omega arith) ∙ m.known q b
+      go q h (no b) = let d : q ≡ p = omega arith in rw (d, ← f) (get_or-set_same counts p k 0 inside ∙ e)
 
-  counted-below : (counts : List ℕ) → 1600 ≤ length counts → (n : ℕ) → n ≤ 1600 → Counted rs (with_counts rs counts n) n
-  unfolding with_counts
-  counted-below counts l zero h = record { long = l; known = λ q b. absurd (omega arith) }
-  counted-below counts l (suc p) h = counted-one (with_counts rs counts p) p (omega arith) (counted-below counts l p (omega arith))
-
-  pub counted-all : (counts : List ℕ) {counts' : List ℕ} → 1600 ≤ length counts → length rs ≤ 1600 → counts' ≡ with_counts rs counts (length rs) → Counted rs counts' (length rs)
-  counted-all counts l h e = rw e (counted-below counts l (length rs) h)
+  pub counted-all : length rs ≡ p → Counted rs counts (length rs)
+  counted-all e = rw e m

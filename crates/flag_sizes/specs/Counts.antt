@@ -1,5 +1,5 @@
 -- Marks of the names that conditions give, so that fields of other names need no search, and the numbers of entries found.
-use Rattle.std.specs.Prelude.{ℕ, zero, suc, ◌%◌, ◌<◌, ◌≤◌, ◌≡◌, List, [], length, get_or, set}
+use Rattle.std.specs.Prelude.{ℕ, ◌%◌, ◌<◌, ◌≤◌, ◌≡◌, List, [], length, get_or}
 use Rattle.rules.specs.Table.{at}
 use Rattle.rules.specs.DesugarFlags.{members_start, entries_from, entries_of}
 use Rattle.rules.specs.declared.Record.{Record}
@@ -9,16 +9,7 @@ pub record ConditionsStamped (rs : List Record) (marks : List ℕ) (a : ℕ) : T
   pub long : 4093 ≤ length marks
   pub clear : (x : ℕ) → ¬ (get_or marks (x % 4093) 0 ≡ a) → [] ≡ entries_from rs x a
 
--- how many entries are made for the record at q
-abbrev pub entry_count : List Record → ℕ → ℕ
-entry_count rs q = length (entries_of rs (at rs q) (members_start rs q))
-
--- counts with those of the records below n, each at its place
-unfoldable pub with_counts : List Record → List ℕ → ℕ → List ℕ
-with_counts rs counts zero = counts
-with_counts rs counts (suc q) = set (with_counts rs counts q) q (entry_count rs q)
-
--- counts has those of the records below n
+-- how many entries are made for each record below n, by its place
 pub record Counted (rs : List Record) (counts : List ℕ) (n : ℕ) : Type 0 where
   pub long : 1600 ≤ length counts
-  pub known : (q : ℕ) → q < n → get_or counts q 0 ≡ entry_count rs q
+  pub known : (q : ℕ) → q < n → get_or counts q 0 ≡ length (entries_of rs (at rs q) (members_start rs q))

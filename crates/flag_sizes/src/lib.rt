@@ -3,12 +3,12 @@
 
 pub mod conditions;
 
-ghost use Rattle.std.specs.Prelude.{◌≡◌, ◌+◌, ◌-◌, ◌^◌, ◌<◌, ◌≤◌, length};
+ghost use Rattle.std.specs.Prelude.{◌≡◌, ◌+◌, ◌-◌, ◌<◌, ◌≤◌, length};
 ghost use Rattle.rules.specs.Table.{decode, at};
 ghost use Rattle.rules.specs.DesugarFlags.{members_start, entries_from, entries_of, condition_at, entries_at, desugared_at, desugared};
-ghost use Rattle.flag_sizes.specs.Counts.{ConditionsStamped, with_counts};
+ghost use Rattle.flag_sizes.specs.Counts.{ConditionsStamped, Counted};
 
-use table::{DIVISOR, REMAINDERS};
+use table::DIVISOR;
 
 // Stamps the remainders of the names that the conditions of a declaration give. Its members start at `from`, which is the stamp: no other
 // declaration has it.
@@ -87,10 +87,9 @@ fn count_own(table: &[u8], from: usize) -> usize
 
 // How many conditions stand behind `place`.
 fn count_condition(table: &[u8], place: usize) -> usize
-    requires { place + 1 < 2 ^ 64 }
     ensures { result ≡ length (condition_at (decode table.now) (place + 1)) }
 {
-    if table::kind(table, place + 1) == kinds::CONDITION {
+    if walker::kind_after(table, place) == kinds::CONDITION {
         1
     } else {
         0
@@ -126,11 +125,10 @@ fn mark_next(table: &[u8], place: usize, members: usize, marks: &mut [u16]) -> u
     next
 }
 
-// How many records the whole table becomes, with marks of the caller's. The numbers of entries are kept by place, so that writing need not
-// count again.
-fn total_with(table: &[u8], marks: &mut [u16], counts: &mut [u16]) -> usize
+// How many records the whole table becomes. The numbers of entries are kept by place, so that writing need not count again.
+pub fn total(table: &[u8], marks: &mut [u16], counts: &mut [u16]) -> usize
     requires { (length (decode table.now) ≤ 1600) × (4093 ≤ length marks.old) × (1600 ≤ length counts.old) }
-    ensures { (result ≡ length (desugared (decode table.now))) × (counts.new ≡ with_counts (decode table.now) counts.old (length (decode table.now))) }
+    ensures { (result ≡ length (desugared (decode table.now))) × Counted (decode table.now) counts.new (length (decode table.now)) }
 {
     let end = table::count(table);
     let mut n = 0;
@@ -145,13 +143,4 @@ fn total_with(table: &[u8], marks: &mut [u16], counts: &mut [u16]) -> usize
         p += 1;
     }
     n
-}
-
-// How many records the whole table becomes, and the number of entries of each, by place.
-pub fn total(table: &[u8], counts: &mut [u16]) -> usize
-    requires { (length (decode table.now) ≤ 1600) × (1600 ≤ length counts.old) }
-    ensures { (result ≡ length (desugared (decode table.now))) × (counts.new ≡ with_counts (decode table.now) counts.old (length (decode table.now))) }
-{
-    let mut marks = [0u16; REMAINDERS];
-    total_with(table, &mut marks, counts)
 }

@@ -1,13 +1,12 @@
 -- Constraints a step at a time: the stack, and what the constraint that holds makes of a record. Assumes nothing.
 use Prim.Native.Nat.{ℕ, ◌+◌, ◌-◌, ◌<◌, ◌≤◌}
 use mathlib.Core.Path.{◌≡◌, refl, sym, ap, ◌∙◌}
-use mathlib.Core.List.{List, [], ◌∷◌}
+use mathlib.Core.List.{List, [], ◌∷◌, ◌++◌, append_assoc, append-nil}
 use native.Mathlib.Omega.{arith}
 use native.Mathlib.Numerals.{add-one}
 use borrow.Author.Tests.{eq-eqb, ne_eqb}
-use lib.ListN.{length, set, length-set}
-use lib.Seq.{sets, sets-eq}
-use Rattle.rules.specs.Bytes.{written}
+use lib.ListN.{length, take, set, length-set}
+use lib.Seq.{take-suc-set}
 use Rattle.rules.specs.Table.{at}
 use Rattle.rules.specs.InlineGroups.{kept, fixed_scalar, fixed_enum, lookup, under, inlined_record, constraints}
 use Rattle.rules.specs.declared.Record.{Record}
@@ -35,9 +34,9 @@ module _ (rs : List Record) (n p : ℕ) where
   unfolding constraints
   more-end h = rw (left-none n p h)
 
--- the stack with the constraints that are still to come put at m
+-- the stack: its first m numbers, and then the constraints that are still to come
 pub record Pushing (rs : List Record) (env₀ : List ℕ) (n p : ℕ) (env : List ℕ) (m i : ℕ) : Type 0 where
-  pub so_far : sets env₀ n (constraints_from rs p) ≡ sets env m (constraints_from rs i)
+  pub so_far : take n env₀ ++ constraints_from rs p ≡ take m env ++ constraints_from rs i
   pub count : n + length (constraints_from rs p) ≡ m + length (constraints_from rs i)
   pub long : length env ≡ length env₀
 
@@ -49,12 +48,12 @@ module _ {rs : List Record} {env₀ : List ℕ} {n p : ℕ} {env : List ℕ} {m 
     pub push-fits : (at rs i).kind ≡ 10 → n + length (constraints_from rs p) ≤ length env₀ → m < length env
     push-fits e f = let c = h.count in let g = h.long in let o = ap length (more-constraint rs (length rs) i l e) in omega arith
 
-    pub push-one : (at rs i).kind ≡ 10 → Pushing rs env₀ n p (set env m i) (m + 1) (i + 1)
-    push-one e =
+    pub push-one : (at rs i).kind ≡ 10 → m < length env → Pushing rs env₀ n p (set env m i) (m + 1) (i + 1)
+    push-one e f =
         let c = h.count in
         let o = ap length (more-constraint rs (length rs) i l e) in
         record {
-          so_far = h.so_far ∙ rw (more-constraint rs (length rs) i l e, add-one m);
+          so_far = h.so_far ∙ rw (more-constraint rs (length rs) i l e, add-one m, take-suc-set env m i f, append_assoc (take m env) (i ∷ []) (constraints_from rs (i + 1)));
           count = omega arith;
           long = length-set env m i ∙ h.long;
         }
@@ -67,18 +66,14 @@ module _ {rs : List Record} {env₀ : List ℕ} {n p : ℕ} {env : List ℕ} {m 
           long = h.long;
         }
 
-  module _ (f : n + length (constraints_from rs p) ≤ length env₀) where
-    pushed : constraints_from rs i ≡ [] → (m ≡ n + length (constraints_from rs p)) × (env ≡ written env₀ n (constraints_from rs p))
-    pushed e =
-        let c = h.count in
-        let o = ap length e in
-        (omega arith, sym (sym (sets-eq (constraints_from rs p) env₀ n f) ∙ h.so_far ∙ rw e))
+  pushed : constraints_from rs i ≡ [] → (m ≡ n + length (constraints_from rs p)) × (take m env ≡ take n env₀ ++ constraints_from rs p)
+  pushed e = let c = h.count in let o = ap length e in (omega arith, sym (h.so_far ∙ rw (e, append-nil (take m env))))
 
-    pub push-stop : i < length rs → ¬ ((at rs i).kind ≡ 10) → ¬ ((at rs i).kind ≡ 11) → (m ≡ n + length (constraints_from rs p)) × (env ≡ written env₀ n (constraints_from rs p))
-    push-stop l e o = pushed (more-other rs (length rs) i l e o)
+  pub push-stop : i < length rs → ¬ ((at rs i).kind ≡ 10) → ¬ ((at rs i).kind ≡ 11) → (m ≡ n + length (constraints_from rs p)) × (take m env ≡ take n env₀ ++ constraints_from rs p)
+  push-stop l e f = pushed (more-other rs (length rs) i l e f)
 
-    pub push-end : length rs ≤ i → (m ≡ n + length (constraints_from rs p)) × (env ≡ written env₀ n (constraints_from rs p))
-    push-end l = pushed (more-end rs (length rs) i l)
+  pub push-end : length rs ≤ i → (m ≡ n + length (constraints_from rs p)) × (take m env ≡ take n env₀ ++ constraints_from rs p)
+  push-end l = pushed (more-end rs (length rs) i l)
 
 -- ---- what the constraint that was found makes of a record
 

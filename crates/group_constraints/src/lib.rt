@@ -1,8 +1,7 @@
 // Constraints: the stack of their places, the one that holds, and what it makes of a field.
 #![tactic(auto)]
 
-ghost use Rattle.std.specs.Prelude.{◌≡◌, ◌+◌, ◌≤◌, length};
-ghost use Rattle.rules.specs.Bytes.{written};
+ghost use Rattle.std.specs.Prelude.{◌≡◌, ◌++◌, ◌+◌, ◌≤◌, length, take};
 ghost use Rattle.rules.specs.Table.{decode};
 ghost use Rattle.rules.specs.InlineGroups.{lookup, fixed_scalar, fixed_enum, inlined_record};
 ghost use Rattle.group_constraints.specs.Constraints.{constraints_from};
@@ -89,7 +88,7 @@ pub fn inlined_record(table: &[u8], env: &[u16], r: Record) -> Inlined
 // Puts the places of the constraints of the field before `place` on the stack, which holds `count`. Returns how many it holds then.
 pub fn push_constraints(table: &[u8], place: usize, env: &mut [u16], count: usize) -> usize
     requires { (length (decode table.now) ≤ 1600) × (count + length (constraints_from (decode table.now) place) ≤ length env.old) }
-    ensures { (result ≡ count + length (constraints_from (decode table.now) place)) × (env.new ≡ written env.old count (constraints_from (decode table.now) place)) }
+    ensures { (result ≡ count + length (constraints_from (decode table.now) place)) × (take result env.new ≡ take count env.old ++ constraints_from (decode table.now) place) }
 {
     let end = table::count(table);
     let mut i = place;

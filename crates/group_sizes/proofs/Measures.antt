@@ -1,6 +1,6 @@
 -- The sizes, computed in the order of the table. Assumes nothing.
 use Prim.Native.Nat.{ℕ, zero, suc, ◌+◌, ◌-◌, ◌*◌, ◌<◌, ◌≤◌, min}
-use mathlib.Core.Path.{◌≡◌, refl, sym, ◌∙◌}
+use mathlib.Core.Path.{◌≡◌, refl, sym, ap, ◌∙◌}
 use mathlib.Core.List.{List}
 use mathlib.Core.Bool.{Bool, true, false, ◌&&◌, ◌||◌}
 use native.Mathlib.Omega.{arith}
@@ -19,7 +19,7 @@ use Rattle.rules.specs.declared.Found.TheVariants.{At}
 use Rattle.rules.specs.declared.Target.TheVariants.{Decl}
 use Rattle.group_sizes.specs.GroupsFirst.{GroupsFirst}
 use Rattle.group_sizes.specs.Targets.{TargetsKnown}
-use Rattle.group_sizes.specs.Sizes.{size_here, size_at, fields_size, size_from, with_size, with_sizes, total_size, Sized}
+use Rattle.group_sizes.specs.Sizes.{size_here, size_at, fields_size, size_from, total_size, Sized}
 use Rattle.table.proofs.Searches.{false-true}
 use Rattle.group_sizes.proofs.targets.Known.{named_in, group-before}
 use Rattle.group_sizes.proofs.Fields.{here-start, here-next, after-start, after_next, size-next, size-end, Ends, Seen, seen-flag}
@@ -83,60 +83,32 @@ module _ (rs : List Record) (t : GroupsFirst rs) (targets : List ℕ) (y : Targe
   from-kept : d < length rs → is_decl (at rs d).kind ≡ true → size_from targets (set sizes q v) rs (d + 1) ≡ size_from targets sizes rs (d + 1)
   from-kept k i = fields-kept (length rs - (d + 1)) (d + 1) (omega arith) (here-start rs d i)
 
--- ---- all sizes, a place at a time
+-- ---- all sizes
 
-pub sizes-start : (rs : List Record) (targets sizes : List ℕ) → sizes ≡ with_sizes rs targets sizes 0
-unfolding with_sizes
-sizes-start rs targets sizes = refl
+pub sized-start : (rs : List Record) (targets sizes : List ℕ) → length rs ≤ length sizes → Sized rs targets sizes 0
+sized-start rs targets sizes l = record { long = l; right = λ d h. absurd (omega arith) }
 
-module _ (rs : List Record) (targets sizes₀ : List ℕ) (q : ℕ) {sizes : List ℕ} (w : sizes ≡ with_sizes rs targets sizes₀ q) where
-  pub sizes-other : is_decl (at rs q).kind ≡ false → sizes ≡ with_sizes rs targets sizes₀ (q + 1)
-  unfolding with_sizes with_size
-  sizes-other o = rw (add-one q, with_sizes, o, ← w)
-
-  pub sizes-next : {v s : ℕ} → is_decl (at rs q).kind ≡ true → v ≡ min 1601 s → s ≡ size_from targets sizes rs (q + 1) → set sizes q v ≡ with_sizes rs targets sizes₀ (q + 1)
-  unfolding with_sizes with_size
-  sizes-next i e f = rw (add-one q, with_sizes, i, ← w, e, f)
-
-pub sizes-end : (rs : List Record) (targets sizes₀ : List ℕ) {sizes : List ℕ} {n m : ℕ} → sizes ≡ with_sizes rs targets sizes₀ n → n ≡ m → sizes ≡ with_sizes rs targets sizes₀ m
-sizes-end rs targets sizes₀ w e = rw e at w
-
--- ---- where each group stands first, these are the sizes by all others
-
-module _ {rs : List Record} {targets : List ℕ} where
-  sized-other : {sizes : List ℕ} {q : ℕ} → Sized rs targets sizes q → is_decl (at rs q).kind ≡ false → Sized rs targets sizes (suc q)
-  sized-other {sizes} {q} w o = record { long = w.long; right = λ d h i. go d i (dec_lt d q) h }
+module _ {rs : List Record} {targets sizes : List ℕ} {q : ℕ} (w : Sized rs targets sizes q) where
+  pub sized-other : is_decl (at rs q).kind ≡ false → Sized rs targets sizes (q + 1)
+  sized-other o = record { long = w.long; right = λ d h i. go d i (dec_lt d q) h }
     where
-      go : (d : ℕ) → is_decl (at rs d).kind ≡ true → Dec (d < q) → d < suc q → get_or sizes d 0 ≡ min 1601 (size_from targets sizes rs (d + 1))
+      go : (d : ℕ) → is_decl (at rs d).kind ≡ true → Dec (d < q) → d < q + 1 → get_or sizes d 0 ≡ min 1601 (size_from targets sizes rs (d + 1))
       go d i (yes z) h = w.right d z i
       go d i (no z) h = let e : d ≡ q = omega arith in false-true (sym (rw e o) ∙ i)
 
-  module _ (t : GroupsFirst rs) (y : TargetsKnown rs targets (length rs)) where
-    sized-next : {sizes : List ℕ} {q : ℕ} → Sized rs targets sizes q → q < length rs → is_decl (at rs q).kind ≡ true → Sized rs targets (set sizes q (min 1601 (size_from targets sizes rs (q + 1)))) (suc q)
-    sized-next {sizes} {q} w l i = record { long = (let a = length-set sizes q v in let b = w.long in omega arith); right = λ d h j. go d j (dec_lt d q) h }
-      where
-        v : ℕ
-        v = min 1601 (size_from targets sizes rs (q + 1))
+  pub sized-next : {v s : ℕ} → GroupsFirst rs → TargetsKnown rs targets (length rs) → q < length rs → is_decl (at rs q).kind ≡ true → v ≡ min 1601 s → s ≡ size_from targets sizes rs (q + 1) → Sized rs targets (set sizes q v) (q + 1)
+  sized-next {v} {s} t y l i e f = record { long = (let a = length-set sizes q v in let b = w.long in omega arith); right = λ d h j. go d j (dec_lt d q) h }
+    where
+      go : (d : ℕ) → is_decl (at rs d).kind ≡ true → Dec (d < q) → d < q + 1 → get_or (set sizes q v) d 0 ≡ min 1601 (size_from targets (set sizes q v) rs (d + 1))
+      go d j (yes z) h =
+          rw (from-kept rs t targets y sizes q v d (omega arith) (omega arith) j, get_or-set_other sizes q d v 0 (λ y. omega arith)) (w.right d z j)
+      go d j (no z) h =
+          let x : d ≡ q = omega arith in
+          let b = w.long in
+          rw (x, from-kept rs t targets y sizes q v q (omega arith) l i, get_or-set_same sizes q v 0 (omega arith)) (e ∙ ap (min 1601) f)
 
-        go : (d : ℕ) → is_decl (at rs d).kind ≡ true → Dec (d < q) → d < suc q → get_or (set sizes q v) d 0 ≡ min 1601 (size_from targets (set sizes q v) rs (d + 1))
-        go d j (yes z) h =
-            rw (from-kept rs t targets y sizes q v d (omega arith) (omega arith) j, get_or-set_other sizes q d v 0 (λ y. omega arith)) (w.right d z j)
-        go d j (no z) h =
-            let x : d ≡ q = omega arith in
-            let b = w.long in
-            rw (x, from-kept rs t targets y sizes q v q (omega arith) l i, get_or-set_same sizes q v 0 (omega arith))
-
-    sized-below : (sizes : List ℕ) → length rs ≤ length sizes → (n : ℕ) → n ≤ length rs → Sized rs targets (with_sizes rs targets sizes n) n
-    unfolding with_sizes with_size
-    sized-below sizes l zero h = record { long = l; right = λ d b. absurd (omega arith) }
-    sized-below sizes l (suc q) h = go (sized-below sizes l q (omega arith)) (is_decl (at rs q).kind) refl
-      where
-        go : Sized rs targets (with_sizes rs targets sizes q) q → (b : Bool) → is_decl (at rs q).kind ≡ b → Sized rs targets (with_sizes rs targets sizes (suc q)) (suc q)
-        go w true i = rw (with_sizes, with_size, i) (sized-next w (omega arith) i)
-        go w false i = rw (with_sizes, with_size, i) (sized-other w i)
-
-    pub sized-all : (sizes : List ℕ) {sizes' : List ℕ} → length rs ≤ length sizes → sizes' ≡ with_sizes rs targets sizes (length rs) → Sized rs targets sizes' (length rs)
-    sized-all sizes l e = rw e (sized-below sizes l (length rs) (omega arith))
+pub sized-end : {rs : List Record} {targets sizes : List ℕ} {n m : ℕ} → Sized rs targets sizes n → n ≡ m → Sized rs targets sizes m
+sized-end w e = rw e at w
 
 -- ---- the whole
 

@@ -1,5 +1,5 @@
 -- Sizes by place of a declaration: how many records stand behind it once its groups are inlined, saturated at 1,601.
-use Rattle.std.specs.Prelude.{ℕ, zero, suc, ◌+◌, ◌-◌, ◌<◌, ◌≤◌, min, ◌≡◌, List, Bool, true, ◌&&◌, length, get_or, set, eqb, if◌then◌else◌}
+use Rattle.std.specs.Prelude.{ℕ, zero, suc, ◌+◌, ◌-◌, ◌<◌, ◌≤◌, min, ◌≡◌, List, Bool, true, ◌&&◌, length, get_or, eqb, if◌then◌else◌}
 use Rattle.rules.specs.Kinds as kind
 use Rattle.rules.specs.Kinds.{is_decl}
 use Rattle.rules.specs.Table.{at}
@@ -23,15 +23,6 @@ fields_size targets sizes rs p (suc n) =
 
 abbrev pub size_from : List ℕ → List ℕ → List Record → ℕ → ℕ
 size_from targets sizes rs p = fields_size targets sizes rs p (length rs - p)
-
--- sizes with that of a declaration at d, by the sizes of its groups; no other record has one
-unfoldable pub with_size : List Record → List ℕ → ℕ → List ℕ → List ℕ
-with_size rs targets d sizes = if is_decl (at rs d).kind then set sizes d (min 1601 (size_from targets sizes rs (d + 1))) else sizes
-
--- the same of each place below n, in order
-unfoldable pub with_sizes : List Record → List ℕ → List ℕ → ℕ → List ℕ
-with_sizes rs targets sizes zero = sizes
-with_sizes rs targets sizes (suc d) = with_size rs targets d (with_sizes rs targets sizes d)
 
 -- sizes has the size of each declaration below n
 pub record Sized (rs : List Record) (targets sizes : List ℕ) (n : ℕ) : Type 0 where

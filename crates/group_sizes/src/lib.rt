@@ -6,8 +6,9 @@ pub mod targets;
 ghost use Rattle.std.specs.Prelude.{◌≡◌, ◌+◌, ◌<◌, ◌≤◌, min, length, get_or};
 ghost use Rattle.rules.specs.Table.{decode};
 ghost use Rattle.rules.specs.Kinds.{group_field};
+ghost use Rattle.group_sizes.specs.GroupsFirst.{GroupsFirst};
 ghost use Rattle.group_sizes.specs.Targets.{TargetsKnown};
-ghost use Rattle.group_sizes.specs.Sizes.{size_here, size_from, with_sizes, SizingAfter, total_size};
+ghost use Rattle.group_sizes.specs.Sizes.{size_here, size_from, SizingAfter, Sized, total_size};
 
 use kinds::{is_constraint_or_condition, is_kept};
 use rules::limits::MOST_RECORDS;
@@ -67,10 +68,11 @@ fn saturated(size: usize) -> u16
     }
 }
 
-// Writes the sizes of the declarations, in the order of the table: in the listed one each group stands before what holds a field of it.
+// Writes the sizes of the declarations, in the order of the table: each group stands before what holds a field of it.
 pub fn measure(table: &[u8], targets: &[u16], sizes: &mut [u16])
-    requires { (length (decode table.now) ≤ 1600) × TargetsKnown (decode table.now) targets.now (length (decode table.now)) × (length (decode table.now) ≤ length sizes.old) }
-    ensures { sizes.new ≡ with_sizes (decode table.now) targets.now sizes.old (length (decode table.now)) }
+    requires table_len_bound { (length (decode table.now) ≤ 1600) × TargetsKnown (decode table.now) targets.now (length (decode table.now)) × (length (decode table.now) ≤ length sizes.old) }
+    requires groups_first { GroupsFirst (decode table.now) }
+    ensures { Sized (decode table.now) targets.now sizes.new (length (decode table.now)) }
 {
     let end = table::count(table);
     let mut d = 0;

@@ -1,15 +1,16 @@
 // The declarations that group fields name, by place.
-ghost use Rattle.std.specs.Prelude.{◌≡◌, List, ℕ, ◌≤◌, length};
+ghost use Rattle.std.specs.Prelude.{List, ℕ, ◌≤◌, length};
 ghost use Rattle.rules.specs.Table.{decode};
 ghost use Rattle.declarations.specs.Starts.{Starts};
-ghost use Rattle.group_sizes.specs.Targets.{with_targets};
+ghost use Rattle.group_sizes.specs.GroupsFirst.{GroupsFirst};
+ghost use Rattle.group_sizes.specs.Targets.{TargetsKnown};
 
 use rules::Found;
 use table::{NO_PLACE, REMAINDERS};
 
-// The place of the first group field, or the end of the table: below it there are no targets.
+// The place of the first group field, or the end of the table: below it any targets are right.
 fn first_group_field(table: &[u8]) -> usize
-    ensures { (result ≤ length (decode table.now)) × ((targets : List ℕ) → targets ≡ with_targets (decode table.now) targets result) }
+    ensures { (result ≤ length (decode table.now)) × ((targets : List ℕ) → length (decode table.now) ≤ length targets → TargetsKnown (decode table.now) targets result) }
 {
     let end = table::count(table);
     let mut p = 0;
@@ -24,9 +25,9 @@ fn first_group_field(table: &[u8]) -> usize
 
 // Writes, at the place of each group field from `from` on, the place of the declaration that it names: one search for each.
 fn fill_from(table: &[u8], starts: &[u16], from: usize, targets: &mut [u16])
-    requires table_len_bound { (length (decode table.now) ≤ 1600) × (from ≤ length (decode table.now)) × (length (decode table.now) ≤ length targets.old) }
-    requires targets_value { (targets.old ≡ with_targets (decode table.now) targets.old from) × Starts (decode table.now) starts.now }
-    ensures { targets.new ≡ with_targets (decode table.now) targets.old (length (decode table.now)) }
+    requires table_len_bound { (length (decode table.now) ≤ 1600) × (from ≤ length (decode table.now)) × TargetsKnown (decode table.now) targets.old from }
+    requires groups_first { GroupsFirst (decode table.now) × Starts (decode table.now) starts.now }
+    ensures { TargetsKnown (decode table.now) targets.new (length (decode table.now)) }
 {
     let end = table::count(table);
     let mut p = from;
@@ -45,8 +46,9 @@ fn fill_from(table: &[u8], starts: &[u16], from: usize, targets: &mut [u16])
 // Writes, at the place of each group field, the place of the declaration that it names. A table without group fields, or of
 // few records, needs no array of starts.
 pub fn fill(table: &[u8], targets: &mut [u16])
-    requires { (length (decode table.now) ≤ 1600) × (length (decode table.now) ≤ length targets.old) }
-    ensures { targets.new ≡ with_targets (decode table.now) targets.old (length (decode table.now)) }
+    requires table_len_bound { (length (decode table.now) ≤ 1600) × (length (decode table.now) ≤ length targets.old) }
+    requires groups_first { GroupsFirst (decode table.now) }
+    ensures { TargetsKnown (decode table.now) targets.new (length (decode table.now)) }
 {
     let a = first_group_field(table);
     if (a < table::count(table)) & declarations::starts::is_large(table) {

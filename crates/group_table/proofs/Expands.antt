@@ -9,9 +9,8 @@ use native.Mathlib.Nat.{not-suc-le-zero, le_of_suc-le-suc}
 use native.Mathlib.Decide.{dec_lt}
 use borrow.Author.Tests.{eq-eqb, ne_eqb, eqb-true}
 use lib.Dec.{eqb}
-use lib.ListN.{length, get_or, take, drop, length-append}
-use lib.Seq.{take-take, take_at, length-take-le, take-append-le}
-use Rattle.rules.specs.Bytes.{written}
+use lib.ListN.{length, get_or, take, length-append}
+use lib.Seq.{take-take, length-take-le, take-append-le}
 use Rattle.rules.specs.Table.{at}
 use Rattle.rules.specs.Places.{nearest, holds_at, decl_named}
 use Rattle.rules.specs.Kinds.{is_decl}
@@ -282,15 +281,7 @@ module _ {rs : List Record} {targets sizes : List ℕ} {d : ℕ} {env₀ : List 
             walk-next (λ k h. sym (rw (none k h))) (omega arith) refl refl refl
 
         -- its fields are written
-        module _ {m : ℕ} {env₁ : List ℕ} (pm : (m ≡ n + length (own_constraints rs p)) × (env₁ ≡ written env n (own_constraints rs p))) (el : length env₁ ≡ length env) where
-          -- the stack as far as m
-          top : take m env₁ ≡ take n env ++ own_constraints rs p
-          top =
-              let h = length-take-le n env env-stack in
-              let l = length-append (take n env) (own_constraints rs p) in
-              let q = pm.0 in
-              rw pm.1 (take_at (take n env ++ own_constraints rs p) (drop (n + length (own_constraints rs p)) env) m (omega arith))
-
+        module _ {m : ℕ} {env₁ : List ℕ} (pm : (m ≡ n + length (own_constraints rs p)) × (take m env₁ ≡ take n env ++ own_constraints rs p)) (el : length env₁ ≡ length env) where
           pub call-expand : {x : ℕ} → d ≡ x → (get_or targets p 0 < x) × ExpandReady rs targets sizes (get_or targets p 0) env₁ m out s
           unfolding g
           call-expand e = (
@@ -315,7 +306,7 @@ module _ {rs : List Record} {targets sizes : List ℕ} {d : ℕ} {env₀ : List 
               let q = size-found in
               let c = x.counted in
               walk-next
-              (λ k h. let v = before in x.made k (omega arith) ∙ rw (field-group (expand rs k) (take n env₀), top, w.kept))
+              (λ k h. let v = before in x.made k (omega arith) ∙ rw (field-group (expand rs k) (take n env₀), pm.1, w.kept))
               (omega arith)
               same
               (e ∙ el)
@@ -326,7 +317,7 @@ module _ {rs : List Record} {targets sizes : List ℕ} {d : ℕ} {env₀ : List 
                   let q = pm.0 in
                   let i : n ≤ m = omega arith in
                   let j : n ≤ length (take n env) = (let h = env-stack in let r = length-take-le n env h in omega arith) in
-                  sym (take-take n m env₂ i) ∙ rw (x.kept, top) (take-append-le n (take n env) (own_constraints rs p) j ∙ take-take n n env (omega arith))
+                  sym (take-take n m env₂ i) ∙ rw (x.kept, pm.1) (take-append-le n (take n env) (own_constraints rs p) j ∙ take-take n n env (omega arith))
 
       -- ---- any other record
       module _ (k34 : ¬ ((at rs p).kind ≡ 34)) where

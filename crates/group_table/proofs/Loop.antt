@@ -30,7 +30,7 @@ pub write-start : (rs : List Record) (sizes env out : List ℕ) → Writing rs s
 unfolding added_all each total_size
 write-start rs sizes env out = record { made = refl; counted = refl; env-long = refl; out-long = refl }
 
-module _ {rs : List Record} {targets sizes env₀ out₀ : List ℕ} (y : RoomForInlined rs targets sizes out₀) (stack : length rs ≤ length env₀) (few : total_size sizes rs (length rs) ≤ 1600) where
+module _ {rs : List Record} {targets sizes env₀ out₀ : List ℕ} (y : RoomForInlined rs targets sizes env₀ out₀) (few : total_size sizes rs (length rs) ≤ 1600) where
   module _ {env out : List ℕ} {s : ExpandProgress} {d : ℕ} (w : Writing rs sizes env₀ out₀ env out s d) (l : d < length rs) where
     pub write-other : is_kept (at rs d).kind ≡ false → Writing rs sizes env₀ out₀ env out s (d + 1)
     unfolding inlined_at
@@ -63,7 +63,7 @@ module _ {rs : List Record} {targets sizes env₀ out₀ : List ℕ} (y : RoomFo
               sized = y.sized;
               decl = (l, kept-decl (at rs d).kind i);
               stack = omega arith;
-              spare = λ e h q. (let a = w.env-long in omega arith);
+              spare = λ e h q. (let a = y.stack in let b = w.env-long in omega arith);
               room = (let a = left in let b = one_more in omega arith);
               wide = (let a = left in let b = one_more in let c = w.out-long in let e = y.wide in omega arith);
             }

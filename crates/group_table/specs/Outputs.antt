@@ -44,11 +44,12 @@ abbrev pub empty : ExpandProgress
 empty = record { count = 0; fit = All }
 
 -- what the whole table needs, with its targets and sizes known
-pub record RoomForInlined (rs : List Record) (targets sizes out : List ℕ) : Type 0 where
+pub record RoomForInlined (rs : List Record) (targets sizes env out : List ℕ) : Type 0 where
   pub few : length rs ≤ 1600
   pub groups : GroupsFirst rs
   pub resolved : TargetsKnown rs targets (length rs)
   pub sized : Sized rs targets sizes (length rs)
+  pub stack : length rs ≤ length env
   pub wide : 40 * total_size sizes rs (length rs) ≤ length out
 
 -- what the declaration at d needs, with n constraints on the stack; the stack has place for those of the records before it, too

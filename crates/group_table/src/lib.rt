@@ -9,8 +9,7 @@ ghost use Rattle.group_table.specs.Outputs.{fit_after, output, added, added_all,
 
 use group_constraints::{inlined_record, push_constraints};
 use kinds::{is_constraint_or_condition, is_kept};
-use records::{field_key, record};
-use rules::limits::MOST_RECORDS;
+use records::record;
 use rules::{FieldKey, Inlined};
 
 // Whether every record so far is fit, or the key of the first that is not.
@@ -37,7 +36,7 @@ fn fit_after(fit: Fit, next: Inlined) -> Fit
             if next.fit {
                 Fit::All
             } else {
-                Fit::Unfit(field_key(next.made))
+                Fit::Unfit(FieldKey(next.made.key))
             }
         }
     }
@@ -98,15 +97,15 @@ fn expand(
     s
 }
 
-// Writes the inlined table, with a stack of the caller's for the places of constraints.
-fn write_with(
+// Writes the inlined table.
+pub fn write_all(
     table: &[u8],
     targets: &[u16],
     sizes: &[u16],
     env: &mut [u16],
     out: &mut [u8],
 ) -> ExpandProgress
-    requires room_for_inlined { RoomForInlined (decode table.now) targets.now sizes.now out.old × (length (decode table.now) ≤ length env.old) }
+    requires room_for_inlined { RoomForInlined (decode table.now) targets.now sizes.now env.old out.old }
     requires table_bound { total_size sizes.now (decode table.now) (length (decode table.now)) ≤ 1600 }
     ensures { output result out.new ≡ added_all (output empty out.old) (inlined (decode table.now)) }
 {
@@ -126,14 +125,4 @@ fn write_with(
         }
     }
     s
-}
-
-// Writes the inlined table.
-pub fn write_all(table: &[u8], targets: &[u16], sizes: &[u16], out: &mut [u8]) -> ExpandProgress
-    requires room_for_inlined { RoomForInlined (decode table.now) targets.now sizes.now out.old }
-    requires table_bound { total_size sizes.now (decode table.now) (length (decode table.now)) ≤ 1600 }
-    ensures { output result out.new ≡ added_all (output empty out.old) (inlined (decode table.now)) }
-{
-    let mut env = [0u16; MOST_RECORDS];
-    write_with(table, targets, sizes, &mut env, out)
 }

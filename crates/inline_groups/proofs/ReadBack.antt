@@ -1,16 +1,16 @@
 -- What the analyzer needs of inlining: its bytes are read back as the inlined records, and its answer decides the reply.
 -- Assumes nothing.
 use Prim.Native.Nat.{ℕ, zero, suc, ◌+◌, ◌-◌, ◌*◌, ◌^◌, ◌<◌, ◌≤◌}
-use mathlib.Core.Path.{◌≡◌, refl, sym, ap, ◌∙◌}
+use mathlib.Core.Path.{◌≡◌, refl}
 use mathlib.Core.List.{List, [], ◌∷◌, ◌++◌, map}
 use mathlib.Core.Bool.{Bool, true, false, ◌&&◌}
 use native.Mathlib.Omega.{arith}
 use native.Mathlib.Decide.{dec_lt}
 use lib.Dec.{eqb, ltb}
-use borrow.Author.Tests.{ltb-true, ltb-false}
+use borrow.Author.Tests.{ltb-true, ltb-false, le-ltb}
 use lib.ListN.{length, get_or, take, drop, get_or-eq_default}
 use lib.Seq.{take_at}
-use Rattle.rules.specs.Bytes.{number_at, written}
+use Rattle.rules.specs.Bytes.{number_at}
 use Rattle.rules.specs.Table.{at, blank, record_at, decode, encode, field_key}
 use Rattle.rules.specs.Places.{each, decl_named}
 use Rattle.rules.specs.Kinds.{is_decl}
@@ -26,7 +26,7 @@ use Rattle.rules.specs.declared.Reply.TheVariants as reply
 use Rattle.table.proofs.Laws.{at-decode}
 use Rattle.inline_groups.specs.declared.Inlining.{Inlining}
 use Rattle.inline_groups.specs.declared.Inlining.TheVariants as inlinings
-use Rattle.inline_groups.specs.Inlinings.{inlining_numbered, inlined_or_unfit, InliningOutcome, inlining_outcome, inlined_into}
+use Rattle.inline_groups.specs.Inlinings.{inlined_or_unfit, inlining, inlining_bytes}
 use Rattle.store.proofs.Laws.{length-encode}
 use Rattle.inline_groups.proofs.Wholes.{length-records}
 use Rattle.inline_groups.proofs.Codec.{Fits, AllFit, none, more, decode-encode}
@@ -157,87 +157,64 @@ module _ (rs : List Record) (ok : (p : ℕ) → Fits (at rs p)) where
   unfolding inlined
   inlined-fits = good-all (each-good (length rs))
 
--- ---- row and values tell the answers apart
+-- ---- what each answer says of the reply, and of the number of records, which stand at the start of a buffer of m bytes
 
-unfoldable by_numbers : ℕ → List ℕ → Inlining
-by_numbers zero [] = inlinings.BufferShort
-by_numbers zero (n ∷ vs) = inlinings.Inlined n
-by_numbers (suc r) [] = inlinings.Swollen
-by_numbers (suc r) (k ∷ vs) = inlinings.Unfit (record { 0 = k })
+unfoldable pub Replied : ℕ → List Inlined → List ℕ → List ℕ → Inlining → Type 0
+Replied m xs t f inlinings.Swollen = answered reply.Swollen t f ≡ by_size xs t f
+Replied m xs t f inlinings.BufferShort = (length xs ≤ 1600) × (m < 40 * length xs)
+Replied m xs t f (inlinings.Unfit k) = answered (reply.Unfit k) t f ≡ by_size xs t f
+Replied m xs t f (inlinings.Inlined n) =
+    (n ≤ 1600) × (n ≡ length xs) × (40 * n ≤ m) × (flagged (map record_of xs) t f ≡ by_size xs t f)
 
-told : (x : Inlining) → by_numbers (inlining_numbered x).row (inlining_numbered x).values ≡ x
-unfolding by_numbers inlining_numbered
-told inlinings.Swollen = refl
-told inlinings.BufferShort = refl
-told (inlinings.Unfit k) = refl
-told (inlinings.Inlined n) = refl
-
-same_answer : (x y : Inlining) (b c : List ℕ) → inlining_outcome x b ≡ inlining_outcome y c → x ≡ y
-same_answer x y b c e = sym (told x) ∙ ap (λ (o : InliningOutcome). by_numbers o.reply.row o.reply.values) e ∙ told y
-
--- ---- what each answer says of the reply, of the number of records and of the buffer, which is b before and b' after
-
-unfoldable pub Replied : List ℕ → List Inlined → List ℕ → List ℕ → List ℕ → Inlining → Type 0
-Replied b xs b' t f inlinings.Swollen = answered reply.Swollen t f ≡ by_size xs t f
-Replied b xs b' t f inlinings.BufferShort = (length xs ≤ 1600) × (length b < 40 * length xs)
-Replied b xs b' t f (inlinings.Unfit k) = answered (reply.Unfit k) t f ≡ by_size xs t f
-Replied b xs b' t f (inlinings.Inlined n) =
-    (n ≤ 1600) × (n ≡ length xs) × (40 * n ≤ length b) × (flagged (map record_of xs) t f ≡ by_size xs t f) × (b' ≡ written b 0 (encode (map record_of xs)))
-
-module _ (b : List ℕ) (xs : List Inlined) (x : Inlining) {b' : List ℕ} (e : inlining_outcome x b' ≡ inlined_into b xs) where
-  replied : (t f : List ℕ) → Replied b xs b' t f x
-  unfolding Replied inlined_into by_size inlined_or_unfit replies.by_unfit
-  replied t f = go (ltb 1600 (length xs)) refl (ltb (length b) (40 * length xs)) refl (first_unfit xs) refl
+module _ (m : ℕ) (xs : List Inlined) (t f : List ℕ) where
+  replied : Replied m xs t f (inlining m xs)
+  unfolding Replied inlining by_size inlined_or_unfit replies.by_unfit
+  replied = go (ltb 1600 (length xs)) refl (ltb m (40 * length xs)) refl (first_unfit xs) refl
     where
-      go : (g : Bool) → ltb 1600 (length xs) ≡ g → (c : Bool) → ltb (length b) (40 * length xs) ≡ c → (u : Found) → first_unfit xs ≡ u → Replied b xs b' t f x
-      go true i c k u j =
-          let s = same_answer x inlinings.Swollen b' b (rw (inlined_into, i) at e) in
-          let r : answered reply.Swollen t f ≡ by_size xs t f = rw (by_size, i) in
-          rw s r
-      go false i true k u j =
-          let s = same_answer x inlinings.BufferShort b' b (rw (inlined_into, i, k) at e) in
-          rw s (ltb-false _ _ i, ltb-true _ _ k)
+      go : (b : Bool) → ltb 1600 (length xs) ≡ b → (c : Bool) → ltb m (40 * length xs) ≡ c → (u : Found) → first_unfit xs ≡ u → Replied m xs t f (inlining m xs)
+      go true i c k u j = let e : answered reply.Swollen t f ≡ by_size xs t f = rw (by_size, i) in rw (inlining, i) e
+      go false i true k u j = rw (inlining, i, k) (ltb-false _ _ i, ltb-true _ _ k)
       go false i false k (At p) j =
-          let s = same_answer x (inlinings.Unfit (field_key (get_or xs p (kept blank)).made)) b' _ (rw (inlined_into, i, k, j) at e) in
-          let r : answered (reply.Unfit (field_key (get_or xs p (kept blank)).made)) t f ≡ by_size xs t f = rw (by_size, i, j) in
-          rw s r
+          let e : answered (reply.Unfit (field_key (get_or xs p (kept blank)).made)) t f ≡ by_size xs t f = rw (by_size, i, j) in
+          rw (inlining, i, k, j) e
       go false i false k Nothing j =
-          let o : inlining_outcome x b' ≡ inlining_outcome (inlinings.Inlined (length xs)) (written b 0 (encode (map record_of xs))) = rw (inlined_into, i, k, j) at e in
-          let r : flagged (map record_of xs) t f ≡ by_size xs t f = rw (by_size, i, j) in
-          rw (same_answer x (inlinings.Inlined (length xs)) b' _ o) (ltb-false _ _ i, refl, ltb-false _ _ k, r, ap (λ (y : InliningOutcome). y.bytes) o)
+          let e : flagged (map record_of xs) t f ≡ by_size xs t f = rw (by_size, i, j) in
+          rw (inlining, i, k, j) (ltb-false _ _ i, refl, ltb-false _ _ k, e)
 
-  pub reply-swollen : (t f : List ℕ) → x ≡ inlinings.Swollen → answered reply.Swollen t f ≡ by_size xs t f
+  pub reply-swollen : inlining m xs ≡ inlinings.Swollen → answered reply.Swollen t f ≡ by_size xs t f
   unfolding Replied
-  reply-swollen t f h = rw h at (replied t f)
+  reply-swollen e = rw e at replied
 
-  pub reply-unfit : (t f : List ℕ) (k : FieldKey) → x ≡ inlinings.Unfit k → answered (reply.Unfit k) t f ≡ by_size xs t f
+  pub reply-unfit : (k : FieldKey) → inlining m xs ≡ inlinings.Unfit k → answered (reply.Unfit k) t f ≡ by_size xs t f
   unfolding Replied
-  reply-unfit t f k h = rw h at (replied t f)
+  reply-unfit k e = rw e at replied
 
-  -- a buffer for 1,600 records is long enough
-  pub enough-room : 64000 ≤ length b → ¬ (x ≡ inlinings.BufferShort)
+  pub reply-inlined : (n : ℕ) → inlining m xs ≡ inlinings.Inlined n → flagged (map record_of xs) t f ≡ by_size xs t f
   unfolding Replied
-  enough-room l h = let r : Replied b xs b' [] [] inlinings.BufferShort = rw h at (replied [] []) in omega (arith, r.0, r.1)
+  reply-inlined n e = let r : Replied m xs t f (inlinings.Inlined n) = rw e at replied in r.3
 
-  -- where the answer is a number of records, they stand at the start of the buffer
-  module _ (n : ℕ) (h : x ≡ inlinings.Inlined n) where
-    pub reply-inlined : (t f : List ℕ) → flagged (map record_of xs) t f ≡ by_size xs t f
-    unfolding Replied
-    reply-inlined t f = let r : Replied b xs b' t f (inlinings.Inlined n) = rw h at (replied t f) in r.3
+-- a buffer for 1,600 records is long enough
+pub enough-room : (m : ℕ) (xs : List Inlined) → 64000 ≤ m → ¬ (inlining m xs ≡ inlinings.BufferShort)
+unfolding Replied
+enough-room m xs h e = let r : Replied m xs [] [] inlinings.BufferShort = rw e at (replied m xs [] []) in omega (arith, r.0, r.1)
 
-    pub few-records : (n ≤ 1600) × (n ≡ length xs) × (40 * n ≤ length b)
-    unfolding Replied
-    few-records = let r : Replied b xs b' [] [] (inlinings.Inlined n) = rw h at (replied [] []) in (r.0, r.1, r.2)
+-- ---- where the answer is a number of records, they stand at the start of the buffer
 
-    front : take (40 * n) b' ≡ encode (map record_of xs)
-    unfolding Replied
-    front =
-        let r : Replied b xs b' [] [] (inlinings.Inlined n) = rw h at (replied [] []) in
-        let l : length (encode (map record_of xs)) ≡ 40 * n = omega (arith, r.1, length-encode (map record_of xs), length-records xs) in
-        rw r.4 (take_at (encode (map record_of xs)) (drop (0 + length (encode (map record_of xs))) b) (40 * n) l)
+pub few-records : (m : ℕ) (xs : List Inlined) (n : ℕ) → inlining m xs ≡ inlinings.Inlined n → (n ≤ 1600) × (n ≡ length xs) × (40 * n ≤ m)
+unfolding Replied
+few-records m xs n e = let r : Replied m xs [] [] (inlinings.Inlined n) = rw e at (replied m xs [] []) in (r.0, r.1, r.2)
 
-pub read-records : (t : List ℕ) (small : (i : ℕ) → get_or t i 0 < 256) (b : List ℕ) {x : Inlining} {b' : List ℕ}
-    → inlining_outcome x b' ≡ inlined_into b (inlined (decode t)) → (n : ℕ) → x ≡ inlinings.Inlined n
-    → decode (take (40 * n) b') ≡ map record_of (inlined (decode t))
-read-records t small b {x} e n h =
-    rw (front b (inlined (decode t)) x e n h) (decode-encode (map record_of (inlined (decode t))) (inlined-fits (decode t) (at-fits t small)))
+front : (b : List ℕ) (xs : List Inlined) (n : ℕ) → inlining (length b) xs ≡ inlinings.Inlined n → take (40 * n) (inlining_bytes b xs) ≡ encode (map record_of xs)
+unfolding inlining_bytes
+front b xs n e =
+    let r = few-records (length b) xs n e in
+    let few : length xs ≤ 1600 = omega (arith, r.0, r.1) in
+    let fits : 40 * length xs ≤ length b = omega (arith, r.1, r.2) in
+    let l : length (encode (map record_of xs)) ≡ 40 * n = omega (arith, r.1, length-encode (map record_of xs), length-records xs) in
+    rw (inlining_bytes, le-ltb _ _ few, le-ltb _ _ fits)
+    (take_at (encode (map record_of xs)) (drop (0 + length (encode (map record_of xs))) b) (40 * n) l)
+
+pub read-records : (t : List ℕ) (small : (i : ℕ) → get_or t i 0 < 256) (b : List ℕ) (n : ℕ) → inlining (length b) (inlined (decode t)) ≡ inlinings.Inlined n
+    → decode (take (40 * n) (inlining_bytes b (inlined (decode t)))) ≡ map record_of (inlined (decode t))
+read-records t small b n e =
+    rw (front b (inlined (decode t)) n e) (decode-encode (map record_of (inlined (decode t))) (inlined-fits (decode t) (at-fits t small)))

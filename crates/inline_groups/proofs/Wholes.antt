@@ -24,7 +24,7 @@ use Rattle.inline_groups.specs.declared.Inlining.TheVariants.{Swollen, BufferSho
 use Rattle.group_sizes.specs.Targets.{TargetsKnown}
 use Rattle.group_sizes.specs.Sizes.{total_size, Sized}
 use Rattle.group_table.specs.Outputs.{Output, output, fit_after, added, added_all, empty}
-use Rattle.inline_groups.specs.Inlinings.{inlined_or_unfit, by_fit, inlining_outcome, inlined_into}
+use Rattle.inline_groups.specs.Inlinings.{inlined_or_unfit, by_fit, inlining, inlining_bytes}
 use Rattle.group_table.proofs.Totals.{inlined-size}
 
 -- ---- bytes
@@ -84,9 +84,9 @@ module _ {rs : List Record} {targets sizes : List ℕ} (t : GroupsFirst rs) (y :
     swollen : 1600 < length (inlined rs)
     swollen = let e = inlined-size rs targets sizes t y z in omega arith
 
-    pub ret-swollen : inlining_outcome Swollen b ≡ inlined_into b (inlined rs)
-    unfolding inlined_into
-    ret-swollen = rw (lt-ltb _ _ swollen)
+    pub ret-swollen : (Swollen ≡ inlining (length b) (inlined rs)) × (b ≡ inlining_bytes b (inlined rs))
+    unfolding inlining inlining_bytes
+    ret-swollen = (rw (lt-ltb _ _ swollen), rw (lt-ltb _ _ swollen))
 
   module _ (h : total_size sizes rs (length rs) ≤ 1600) (out₀ : List ℕ) where
     size : length (inlined rs) ≡ total_size sizes rs (length rs)
@@ -95,9 +95,13 @@ module _ {rs : List Record} {targets sizes : List ℕ} (t : GroupsFirst rs) (y :
     few : length (inlined rs) ≤ 1600
     few = let e = size in omega arith
 
-    pub ret-buffer-short : length out₀ < 40 * total_size sizes rs (length rs) → inlining_outcome BufferShort out₀ ≡ inlined_into out₀ (inlined rs)
-    unfolding inlined_into
-    ret-buffer-short l = let e = size in let m : length out₀ < 40 * length (inlined rs) = omega arith in rw (le-ltb _ _ few, lt-ltb _ _ m)
+    pub ret-buffer-short : length out₀ < 40 * total_size sizes rs (length rs)
+        → (BufferShort ≡ inlining (length out₀) (inlined rs)) × (out₀ ≡ inlining_bytes out₀ (inlined rs))
+    unfolding inlining inlining_bytes
+    ret-buffer-short l =
+        let e = size in
+        let m : length out₀ < 40 * length (inlined rs) = omega arith in
+        (rw (le-ltb _ _ few, lt-ltb _ _ m), rw (le-ltb _ _ few, lt-ltb _ _ m))
 
     module _ (l : 40 * total_size sizes rs (length rs) ≤ length out₀) {out : List ℕ} {s : ExpandProgress} (p : output s out ≡ added_all (output empty out₀) (inlined rs)) where
       fits : 40 * length (inlined rs) ≤ length out₀
@@ -106,9 +110,9 @@ module _ {rs : List Record} {targets sizes : List ℕ} (t : GroupsFirst rs) (y :
       whole : output s out ≡ output (record { count = length (inlined rs); fit = fit_of All (inlined rs) }) (written out₀ 0 (encode (map record_of (inlined rs))))
       whole = let f = fits in p ∙ added-bytes (inlined rs) 0 All out₀ (omega arith) ∙ rw (zero-add (length (inlined rs)))
 
-      answer : by_fit s.count s.fit ≡ inlined_or_unfit (inlined rs) (first_unfit (inlined rs))
-      answer = ap (λ (u : Output). by_fit u.progress.count u.progress.fit) whole ∙ first-unfit (inlined rs)
-
-      pub ret-fits : {r : Inlining} → r ≡ by_fit s.count s.fit → inlining_outcome r out ≡ inlined_into out₀ (inlined rs)
-      unfolding inlined_into
-      ret-fits e = rw (le-ltb _ _ few, le-ltb _ _ fits, e, answer, ap (λ (u : Output). u.bytes) whole)
+      pub ret-fits : {r : Inlining} → r ≡ by_fit s.count s.fit → (r ≡ inlining (length out₀) (inlined rs)) × (out ≡ inlining_bytes out₀ (inlined rs))
+      unfolding inlining inlining_bytes
+      ret-fits e = (
+        e ∙ ap (λ (u : Output). by_fit u.progress.count u.progress.fit) whole ∙ first-unfit (inlined rs) ∙ rw (le-ltb _ _ few, le-ltb _ _ fits),
+        ap (λ (u : Output). u.bytes) whole ∙ rw (le-ltb _ _ few, le-ltb _ _ fits),
+      )

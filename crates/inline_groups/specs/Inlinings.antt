@@ -29,17 +29,16 @@ unfoldable pub by_fit : ℕ → Fit → Inlining
 by_fit n All = inlinings.Inlined n
 by_fit n (Unfit k) = inlinings.Unfit k
 
--- the answer with the bytes of the buffer
-pub record InliningOutcome : Type 0 where
-  pub reply : Numbered
-  pub bytes : List ℕ
+-- the answer for the records of an inlined table and a buffer of m bytes
+unfoldable pub inlining : ℕ → List Inlined → Inlining
+inlining m xs =
+    if ltb most_records (length xs) then inlinings.Swollen
+    else if ltb m (record_length * length xs) then inlinings.BufferShort
+    else inlined_or_unfit xs (first_unfit xs)
 
-abbrev pub inlining_outcome : Inlining → List ℕ → InliningOutcome
-inlining_outcome r b = record { reply = inlining_numbered r; bytes = b }
-
--- what comes of the records of an inlined table and a buffer b: they stand at its start, unless they are too many or longer than b
-unfoldable pub inlined_into : List ℕ → List Inlined → InliningOutcome
-inlined_into b xs =
-    if ltb most_records (length xs) then inlining_outcome inlinings.Swollen b
-    else if ltb (length b) (record_length * length xs) then inlining_outcome inlinings.BufferShort b
-    else inlining_outcome (inlined_or_unfit xs (first_unfit xs)) (written b 0 (encode (map record_of xs)))
+-- a buffer b with those records at its start, unless they are too many or longer than b
+unfoldable pub inlining_bytes : List ℕ → List Inlined → List ℕ
+inlining_bytes b xs =
+    if ltb most_records (length xs) then b
+    else if ltb (length b) (record_length * length xs) then b
+    else written b 0 (encode (map record_of xs))

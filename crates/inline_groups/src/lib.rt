@@ -5,7 +5,7 @@ ghost use Rattle.std.specs.Prelude.{◌≡◌, ◌≤◌, length};
 ghost use Rattle.rules.specs.Table.{decode};
 ghost use Rattle.rules.specs.InlineGroups.{inlined};
 ghost use Rattle.group_sizes.specs.GroupsFirst.{GroupsFirst};
-ghost use Rattle.inline_groups.specs.Inlinings.{by_fit, inlining_outcome, inlined_into};
+ghost use Rattle.inline_groups.specs.Inlinings.{inlining, inlining_numbered, by_fit, inlining_bytes};
 
 use group_table::{ExpandProgress, Fit};
 use rules::FieldKey;
@@ -32,11 +32,17 @@ fn by_fit(progress: ExpandProgress) -> Inlining
     }
 }
 
-// Inlines the groups with arrays of the caller's: targets and sizes by place.
-fn inline_with(table: &[u8], targets: &mut [u16], sizes: &mut [u16], out: &mut [u8]) -> Inlining
-    requires table_len_bound { (length (decode table.now) ≤ 1600) × (length (decode table.now) ≤ length targets.old) × (length (decode table.now) ≤ length sizes.old) }
+// Inlines the groups with arrays of the caller's: targets and sizes by place, and a stack of places of constraints.
+fn inline_with(
+    table: &[u8],
+    targets: &mut [u16],
+    sizes: &mut [u16],
+    env: &mut [u16],
+    out: &mut [u8],
+) -> Inlining
+    requires table_len_bound { (length (decode table.now) ≤ 1600) × (length (decode table.now) ≤ length targets.old) × (length (decode table.now) ≤ length sizes.old) × (length (decode table.now) ≤ length env.old) }
     requires groups_first { GroupsFirst (decode table.now) }
-    ensures { inlining_outcome result out.new ≡ inlined_into out.old (inlined (decode table.now)) }
+    ensures { (result ≡ inlining (length out.old) (inlined (decode table.now))) × (out.new ≡ inlining_bytes out.old (inlined (decode table.now))) }
 {
     group_sizes::targets::fill(table, targets);
     group_sizes::measure(table, targets, sizes);
@@ -47,7 +53,7 @@ fn inline_with(table: &[u8], targets: &mut [u16], sizes: &mut [u16], out: &mut [
     if out.len() < RECORD_LENGTH * n {
         return Inlining::BufferShort;
     }
-    let a = group_table::write_all(table, targets, sizes, out);
+    let a = group_table::write_all(table, targets, sizes, env, out);
     by_fit(a)
 }
 
@@ -55,9 +61,11 @@ fn inline_with(table: &[u8], targets: &mut [u16], sizes: &mut [u16], out: &mut [
 pub fn inline_groups(table: &[u8], out: &mut [u8]) -> Inlining
     requires table_len_bound { length (decode table.now) ≤ 1600 }
     requires groups_first { GroupsFirst (decode table.now) }
-    ensures { inlining_outcome result out.new ≡ inlined_into out.old (inlined (decode table.now)) }
+    ensures value { (result ≡ inlining (length out.old) (inlined (decode table.now))) × (out.new ≡ inlining_bytes out.old (inlined (decode table.now))) }
+    ensures numbered { inlining_numbered result ≡ inlining_numbered (inlining (length out.old) (inlined (decode table.now))) }
 {
     let mut targets = [0u16; MOST_RECORDS];
     let mut sizes = [0u16; MOST_RECORDS];
-    inline_with(table, &mut targets, &mut sizes, out)
+    let mut env = [0u16; MOST_RECORDS];
+    inline_with(table, &mut targets, &mut sizes, &mut env, out)
 }

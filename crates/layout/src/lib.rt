@@ -89,7 +89,8 @@ fn step(surroundings: Around, kind: u8) -> Around
 
 // The rows Uneven, TooLong and Malformed, or a sound layout.
 pub fn check_layout(table: &[u8]) -> Layout
-    ensures { layout_numbered result ≡ layout_numbered (layout table.now) }
+    ensures value { result ≡ layout table.now }
+    ensures numbered { layout_numbered result ≡ layout_numbered (layout table.now) }
 {
     if table.len() % RECORD_LENGTH != 0 {
         return Layout::Uneven;

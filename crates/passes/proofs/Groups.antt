@@ -16,15 +16,17 @@ use Rattle.rules.specs.Kinds.{is, is_decl, is_named_decl}
 use Rattle.rules.specs.Table.{at, blank}
 use Rattle.rules.specs.Places.{nearest, holds_at, decl_named, member_count}
 use Rattle.rules.specs.DeclIdentifiers.{decl_records, all_records, order, ordered}
+use Rattle.rules.specs.Ordering.{Declared, Named, UniqueNames, HeldBy, by_group, Listing, Accepts}
 use Rattle.rules.specs.declared.Record.{Record}
 use Rattle.rules.specs.declared.Found.TheVariants.{At}
 use Rattle.rules.specs.declared.Target.TheVariants.{Decl, DeclNamed}
 use Rattle.group_sizes.specs.GroupsFirst.{FoundBefore, GroupsFirst}
 use Rattle.table.proofs.Searches.{false-true, and-true, named-is-decl, first-only, nearest-is}
-use Rattle.ordering.specs.Ordering.{Declared, Named, UniqueNames, HeldBy, by_group, Listing, Accepts}
-use Rattle.ordering.proofs.Distinct.{mem-at}
-use Rattle.ordering.proofs.Stretches.{decl-length, members-free, stretch}
-use Rattle.ordering.proofs.Promise.{promise}
+use Rattle.decl_order.proofs.Topological.{mem-at}
+use Rattle.decl_order.proofs.Promise.{promise}
+use Rattle.decl_order.proofs.Copies.{decl-length, count_fits}
+use Rattle.decl_order.proofs.Room.{named-decl}
+use Rattle.decl_order.proofs.Stretches.{members-free, decl-at, decl-members}
 
 -- ---- the places of the listed records
 
@@ -91,7 +93,7 @@ module _ (rs : List Record) where
 
     listed_at : (i j : ℕ) → i < length l → j < length (decl_records rs (get_or l i 0)) → at os (offset l i + j) ≡ at rs (get_or l i 0 + j)
     unfolding os
-    listed_at i j h k = at_offset l i j h k ∙ (stretch rs (get_or l i 0) (declared-at i h).0).unchanged j k
+    listed_at i j h k = at_offset l i j h k ∙ decl-at rs (get_or l i 0) (declared-at i h).0 j k
 
     own_at : (i : ℕ) → i < length l → at os (offset l i) ≡ at rs (get_or l i 0)
     own_at i h =
@@ -99,7 +101,7 @@ module _ (rs : List Record) where
 
     member-free : (i j : ℕ) → i < length l → 0 < j → j < length (decl_records rs (get_or l i 0)) → is_decl (at os (offset l i + j)).kind ≡ false
     unfolding os
-    member-free i j h p k = rw (at_offset l i j h k) ((stretch rs (get_or l i 0) (declared-at i h).0).members j p k)
+    member-free i j h p k = rw (at_offset l i j h k) (decl-members rs (get_or l i 0) (declared-at i h).0 j p k)
 
     -- a declaration stands where one of the listed starts
     decl-place : (q : ℕ) → q < length os → is_decl (at os q).kind ≡ true → (i : ℕ) × (i < length l) × (q ≡ offset l i)
@@ -125,7 +127,7 @@ module _ (rs : List Record) where
     nearest-decl : (p i j : ℕ) (x : i < length l) → 0 < j → j < length (decl_records rs (get_or l i 0)) → p ≡ offset l i + j → nearest (holds_at os Decl) p ≡ At (offset l i)
     nearest-decl p i j x z y e =
         nearest-is (holds_at os Decl) p (offset l i) (omega arith)
-        (rw (own_at i x) (named-is-decl (at rs (get_or l i 0)).kind (declared-at i x).1))
+        (rw (own_at i x) (named-decl rs (get_or l i 0) (declared-at i x)))
         (λ q s t.
         let n : q ≡ offset l i + (q - offset l i) = omega arith in
         ap (λ (m : ℕ). is_decl (at os m).kind) n ∙ member-free i (q - offset l i) x (omega arith) (omega arith))
@@ -154,7 +156,7 @@ module _ (rs : List Record) where
           go zero z =
               let q : at rs (get_or l i 0 + j) ≡ at rs (get_or l i 0) = ap (at rs) (ap (λ (m : ℕ). get_or l i 0 + m) z ∙ add-zero (get_or l i 0)) in
               let r : (at rs (get_or l i 0)).kind ≡ kind.group_field = ap (λ (r : Record). r.kind) (sym q) ∙ eqb-true (at rs (d + j)).kind kind.group_field is-group in
-              false-true (sym (ap is_decl r) ∙ named-is-decl (at rs (get_or l i 0)).kind declared.1)
+              false-true (sym (ap is_decl r) ∙ named-decl rs (get_or l i 0) declared)
           go (suc m) z = omega arith
 
       held : HeldBy rs d (d + j)
@@ -162,7 +164,7 @@ module _ (rs : List Record) where
       held =
           let a = later in
           let c = long i x in
-          (omega arith, omega (arith, (stretch rs (get_or l i 0) (declared-at i x).0).within), λ q s t. members-free rs (get_or l i 0) (declared-at i x).0 q s (omega arith))
+          (omega arith, omega (arith, count_fits rs (get_or l i 0) (declared-at i x).0), λ q s t. members-free rs (get_or l i 0) (declared-at i x).0 q s (omega arith))
 
       earlier : FoundBefore (decl_named os (at os p).second) (nearest (holds_at os Decl) p)
       unfolding d

@@ -30,7 +30,7 @@ use Rattle.decl_order.specs.Contract.{ListedAtStart, DeclIdentifiersChecked}
 use Rattle.group_sizes.specs.GroupsFirst.{GroupsFirst}
 use Rattle.decl_order.specs.declared.OrderResult as order
 use Rattle.decl_order.proofs.Checks.{checked-total, checked-ordered}
-use Rattle.ordering.proofs.Unique.{unique-names}
+use Rattle.decl_order.proofs.Names.{unique-names}
 use Rattle.passes.proofs.Groups.{groups-first}
 use Rattle.passes.specs.Listed.{by_listed_pass, by_listed}
 

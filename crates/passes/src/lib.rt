@@ -10,11 +10,7 @@ ghost use Rattle.passes.specs.Listed.{by_listed};
 
 use pass_checks::Checked;
 use rules::Reply;
-use rules::limits::{RECORD_LENGTH, TABLE_LENGTH};
-use table::FEW_RECORDS;
-
-// The bytes of a table of few records.
-const FEW_LENGTH: usize = RECORD_LENGTH * FEW_RECORDS;
+use rules::limits::RECORD_LENGTH;
 
 // Passes 3 to 9, then the table.
 fn check_listed(listed: &[u8], table: &mut [u8], faults: &mut [u8]) -> Reply
@@ -41,35 +37,14 @@ fn check_order(input: &[u8], listed: &mut [u8], table: &mut [u8], faults: &mut [
     check_listed(&listed[..end], table, faults)
 }
 
-// The same with a listed table of its own: the caller's buffer changes only on acceptance.
-fn order_small(input: &[u8], table: &mut [u8], faults: &mut [u8]) -> Reply
-    requires { (length (decode input.now) ≤ 64) × (pass1 (decode input.now) ≡ []) }
+// Passes 1 and 2, then what follows.
+pub fn check_passes(input: &[u8], listed: &mut [u8], table: &mut [u8], faults: &mut [u8]) -> Reply
+    requires { (length (decode input.now) ≤ 1600) × (40 * length (decode input.now) ≤ length listed.old) }
     ensures { answered result table.new faults.new ≡ by_passes (decode input.now) table.old faults.old }
 {
-    let mut listed = [0u8; FEW_LENGTH];
-    check_order(input, &mut listed, table, faults)
-}
-
-// The same for the longest tables.
-fn order_large(input: &[u8], table: &mut [u8], faults: &mut [u8]) -> Reply
-    requires { (length (decode input.now) ≤ 1600) × (pass1 (decode input.now) ≡ []) }
-    ensures { answered result table.new faults.new ≡ by_passes (decode input.now) table.old faults.old }
-{
-    let mut listed = [0u8; TABLE_LENGTH];
-    check_order(input, &mut listed, table, faults)
-}
-
-// Pass 1, then what follows, with a listed table as long as this one may need.
-pub fn check_passes(input: &[u8], table: &mut [u8], faults: &mut [u8]) -> Reply
-    requires { length (decode input.now) ≤ 1600 }
-    ensures { answered result table.new faults.new ≡ by_passes (decode input.now) table.old faults.old }
-{
-    let tally = scope::scope_new(input, faults);
+    let tally = pass_checks::scope_new(input, faults);
     if 0 < tally.total {
         return Reply::Faulty(1, tally.total);
     }
-    if FEW_RECORDS < table::count(input) {
-        return order_large(input, table, faults);
-    }
-    order_small(input, table, faults)
+    check_order(input, listed, table, faults)
 }

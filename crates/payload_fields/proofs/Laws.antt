@@ -1,31 +1,21 @@
--- Where pass 7 finds nothing: other kinds, and the declarations that lack no Payload or Body. Assumes nothing.
+-- The declarations that lack no Payload or Body. Assumes nothing.
 use Prim.Native.Nat.{ℕ, ◌%◌}
 use mathlib.Core.Path.{◌≡◌, refl}
-use mathlib.Core.Bool.{true, false}
+use mathlib.Core.Bool.{true}
 use mathlib.Core.List.{List, []}
 use native.Mathlib.Omega.{arith}
 use lib.ListN.{length, get_or}
 use Rattle.rules.specs.Choice.{when}
 use Rattle.rules.specs.Table.{at}
 use Rattle.rules.specs.Places.{first}
-use Rattle.rules.specs.PayloadFields.{has_payload, child_with_field, missing_payload, pass7_at}
+use Rattle.rules.specs.PayloadFields.{has_payload, child_with_field, missing_payload}
 use Rattle.rules.specs.declared.Record.{Record}
 use Rattle.rules.specs.declared.Found.{Found}
 use Rattle.rules.specs.declared.Found.TheVariants.{At, Nothing}
 use Rattle.table.proofs.Searches.{first-nothing}
-use Rattle.walker.specs.Steps.{is_among}
-use Rattle.walker.proofs.Passed.{not-between}
 use Rattle.payload_fields.specs.Parents.{Parents}
 
 module _ (rs : List Record) where
-  pub no-payload-or-decl : (p : ℕ) → is_among 100663422 (at rs p).kind ≡ false → pass7_at rs p ≡ []
-  unfolding pass7_at first is_among
-  no-payload-or-decl p h = rw (not-between _ (at rs p).kind h 25 26 (omega arith) refl, not-between _ (at rs p).kind h 1 6 (omega arith) refl)
-
-  -- no marks: every name counts as a parent's
-  pub parents-none : Parents rs []
-  parents-none = record { none = λ d m c l. absurd (omega (arith, m)) }
-
   -- a declaration whose mark is 0, or that has a Payload or Body, lacks none
   pub none-missing : (marks : List ℕ) → Parents rs marks → (d x : ℕ) → x ≡ (at rs d).name → get_or marks (x % 4093) 1 ≡ 0 → [] ≡ missing_payload rs d (first (child_with_field rs d) 0 (length rs))
   unfolding missing_payload

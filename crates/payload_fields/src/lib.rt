@@ -1,22 +1,20 @@
 // Pass 7, `check_payload_fields`: a second Payload or Body, and a parent that has none though a child has fields.
 #![tactic(auto)]
 
-mod parents;
+pub mod parents;
 
 ghost use Rattle.std.specs.Prelude.{◌≡◌, length};
 ghost use Rattle.rules.specs.Table.{decode};
 ghost use Rattle.rules.specs.Places.{first, first_within};
-ghost use Rattle.rules.specs.Faults.{log, logged};
-ghost use Rattle.rules.specs.PayloadFields.{second_payload, has_field, child_with_field, missing_payload, pass7_at, pass7};
+ghost use Rattle.rules.specs.PayloadFields.{second_payload, has_field, child_with_field, missing_payload, pass7_at};
 ghost use Rattle.rules.specs.declared.Target.TheVariants.{PayloadOrDecl};
 ghost use Rattle.faults.specs.Notes.{findings};
 ghost use Rattle.payload_fields.specs.Parents.{Parents};
 
-use crate::parents::mark_parents;
 use faults::{Finding, when};
-use rules::{Found, Tally, Target, codes};
+use rules::{Found, Target, codes};
 use search::members::has_member;
-use table::{DIVISOR, REMAINDERS};
+use table::DIVISOR;
 
 // The first Payload or Body of the declaration that `place` stands in.
 fn first_payload(table: &[u8], place: usize) -> Found
@@ -96,7 +94,7 @@ fn missing_payload(table: &[u8], parents: &[u8], decl: usize) -> Finding
     }
 }
 
-fn at_place(table: &[u8], parents: &[u8], place: usize) -> Finding
+pub fn at_place(table: &[u8], parents: &[u8], place: usize) -> Finding
     requires { Parents (decode table.now) parents.now }
     ensures { findings result ≡ pass7_at (decode table.now) place }
 {
@@ -108,32 +106,4 @@ fn at_place(table: &[u8], parents: &[u8], place: usize) -> Finding
         return missing_payload(table, parents, place);
     }
     Finding::None
-}
-
-// All faults of the pass, with the marks of the parents' names.
-fn check_places(table: &[u8], parents: &[u8], buffer: &mut [u8]) -> Tally
-    requires { Parents (decode table.now) parents.now }
-    ensures { log result buffer.new ≡ logged buffer.old (pass7 (decode table.now)) }
-{
-    let n = table::count(table);
-    let mut tally = faults::no_faults();
-    let mut p = walker::next_of(table, kinds::PAYLOADS_AND_NAMED_DECLS, 0);
-    while p < n {
-        tally = faults::notes::note_found(tally, buffer, at_place(table, parents, p));
-        p = walker::next_of(table, kinds::PAYLOADS_AND_NAMED_DECLS, p + 1);
-    }
-    tally
-}
-
-// All faults of the pass. In a small table, or one of more than 1,600 records, a child is searched for at every declaration.
-pub fn check_payload_fields(table: &[u8], buffer: &mut [u8]) -> Tally
-    ensures { log result buffer.new ≡ logged buffer.old (pass7 (decode table.now)) }
-{
-    if !declarations::starts::is_large(table) {
-        let none = [0u8; 0];
-        return check_places(table, &none, buffer);
-    }
-    let mut parents = [0u8; REMAINDERS];
-    mark_parents(table, &mut parents);
-    check_places(table, &parents, buffer)
 }

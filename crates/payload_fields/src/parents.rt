@@ -23,7 +23,7 @@ fn mark_parent(table: &[u8], child: usize, parents: &mut [u8])
 }
 
 // Marks the parents of declarations that have a field, so that other declarations need no search for a child.
-pub(crate) fn mark_parents(table: &[u8], parents: &mut [u8])
+pub fn mark_parents(table: &[u8], parents: &mut [u8])
     requires { length parents.old ≡ 4093 }
     ensures { Parents (decode table.now) parents.new }
 {

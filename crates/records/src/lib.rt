@@ -2,10 +2,10 @@
 #![tactic(auto)]
 
 ghost use Rattle.std.specs.Prelude.{◌≡◌, ◌<◌, length};
-ghost use Rattle.rules.specs.Table.{decode, at, field_key};
+ghost use Rattle.rules.specs.Table.{decode, at};
 
 use numbers::{number2, number4, number8};
-use rules::{FieldKey, Record};
+use rules::Record;
 
 // The record at a place of the table.
 pub fn record(table: &[u8], place: usize) -> Record
@@ -46,11 +46,4 @@ pub fn at(table: &[u8], place: usize) -> Record
         start: 0,
         end: 0,
     }
-}
-
-// The key of a field's record.
-pub fn field_key(field: Record) -> FieldKey
-    ensures { result ≡ field_key field }
-{
-    FieldKey(field.key)
 }

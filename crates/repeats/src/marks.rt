@@ -1,8 +1,9 @@
 // Marks of the records that might repeat an earlier one of their declaration, so that the others need no search.
-ghost use Rattle.std.specs.Prelude.{◌≡◌, ◌+◌, ◌<◌, ◌≤◌, length, get_or, set, replicate, if◌then◌else◌};
+ghost use Rattle.std.specs.Prelude.{◌≡◌, ◌+◌, ◌<◌, ◌≤◌, length, get_or};
 ghost use Rattle.rules.specs.Table.{decode, at};
-ghost use Rattle.repeats.specs.Marks.{selects, compared_of, is_first, marked_to, marked, Stamped};
+ghost use Rattle.repeats.specs.Marks.{selects, compared_of, Marked, Stamped};
 
+use rules::limits::MOST_RECORDS;
 use table::{DIVISOR, REMAINDERS};
 
 // What each record of a declaration has of its own.
@@ -68,8 +69,8 @@ fn mark_place(
     seen: &mut [u16],
     marks: &mut [u8],
 ) -> u16
-    requires { (place < 1600) × (1600 ≤ length marks.old) × (4093 ≤ length seen.old) × Stamped (decode table.now) what seen.old stamp place }
-    ensures { (marks.new ≡ (if is_first (decode table.now) what place then set marks.old place 0 else marks.old)) × Stamped (decode table.now) what seen.new result (place + 1) }
+    requires { (place < 1600) × (1600 ≤ length marks.old) × (4093 ≤ length seen.old) × Marked (decode table.now) what marks.old × Stamped (decode table.now) what seen.old stamp place }
+    ensures { Marked (decode table.now) what marks.new × Stamped (decode table.now) what seen.new result (place + 1) }
 {
     let k = table::kind(table, place);
     if !selects(what, k) {
@@ -89,13 +90,12 @@ fn mark_place(
     stamp
 }
 
-// The first `count` places. Each declaration has its own stamp, one more than its place, so that `seen` is not cleared between them. No
-// record stands before a declaration at place 0, so that its stamp serves the records before the first declaration too.
+// The first `count` places. Each declaration has its own stamp, so that `seen` is not cleared between them.
 fn mark_places(table: &[u8], what: Compared, count: usize, seen: &mut [u16], marks: &mut [u8])
-    requires { (count ≤ 1600) × (1600 ≤ length marks.old) × (seen.old ≡ replicate 4093 0) }
-    ensures { marks.new ≡ marked_to (decode table.now) what marks.old count }
+    requires { (count ≤ 1600) × (1600 ≤ length marks.old) × (4093 ≤ length seen.old) × Marked (decode table.now) what marks.old }
+    ensures { Marked (decode table.now) what marks.new }
 {
-    let mut stamp = 1;
+    let mut stamp = 0;
     let mut p = 0;
     while p < count {
         stamp = mark_place(table, what, stamp, p, seen, marks);
@@ -103,11 +103,15 @@ fn mark_places(table: &[u8], what: Compared, count: usize, seen: &mut [u16], mar
     }
 }
 
-// A zero for each record that is the first of its declaration with its remainder.
+// Zeros among the marks, which are ones at first. A table that is too long keeps its ones.
 pub fn mark(table: &[u8], what: Compared, marks: &mut [u8])
-    requires { (length (decode table.now) ≤ 1600) × (1600 ≤ length marks.old) }
-    ensures { marks.new ≡ marked (decode table.now) what marks.old }
+    requires { (1600 ≤ length marks.old) × Marked (decode table.now) what marks.old }
+    ensures { Marked (decode table.now) what marks.new }
 {
+    let n = table::count(table);
+    if MOST_RECORDS < n {
+        return;
+    }
     let mut seen = [0u16; REMAINDERS];
-    mark_places(table, what, table::count(table), &mut seen, marks);
+    mark_places(table, what, n, &mut seen, marks);
 }

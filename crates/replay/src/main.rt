@@ -1,9 +1,6 @@
 // Replays stored tables through parts of the analyzer: a line for each case says what the part answered.
 #![tactic(auto)]
 
-mod buffers;
-mod output;
-
 use pass_checks::Checked;
 use replay_cases::Next;
 use rules::limits::{MOST_RECORDS, RECORD_LENGTH, TABLE_LENGTH};
@@ -13,33 +10,33 @@ use std::io::{Input, Print, Read};
 // The row of the layout's reply, 0 for a sound layout, and the place.
 fn print_layout<R: Print>(rt: &R, layout: Layout) {
     match layout {
-        Layout::Uneven => output::print(rt, 1, b'\n'),
-        Layout::TooLong => output::print(rt, 2, b'\n'),
+        Layout::Uneven => replay_cases::print(rt, 1, b'\n'),
+        Layout::TooLong => replay_cases::print(rt, 2, b'\n'),
         Layout::Malformed(place) => {
-            output::print(rt, 3, b' ');
-            output::print(rt, place as u64, b'\n');
+            replay_cases::print(rt, 3, b' ');
+            replay_cases::print(rt, place as u64, b'\n');
         }
-        Layout::Sound => output::print(rt, 0, b'\n'),
+        Layout::Sound => replay_cases::print(rt, 0, b'\n'),
     }
 }
 
 // The faults kept, the faults found and the digest of the fault buffer.
 fn print_faults<R: Print>(rt: &R, tally: Tally, faults: &[u8], end: u8) {
-    output::print(rt, tally.kept as u64, b' ');
-    output::print(rt, tally.total as u64, b' ');
-    output::print(rt, output::digest(faults), end);
+    replay_cases::print(rt, tally.kept as u64, b' ');
+    replay_cases::print(rt, tally.total as u64, b' ');
+    replay_cases::print(rt, replay_cases::digest(faults), end);
 }
 
 fn print_scope<R: Print>(rt: &R, input: &[u8], faults: &mut [u8]) {
-    buffers::fill(faults);
-    let tally = scope::scope_new(input, faults);
+    replay_cases::fill(faults);
+    let tally = pass_checks::scope_new(input, faults);
     print_faults(rt, tally, faults, b'\n');
 }
 
 // The faults, the number of listed records and the digest of the buffer that holds them.
 fn print_order<R: Print>(rt: &R, input: &[u8], faults: &mut [u8], out: &mut [u8]) {
-    buffers::fill(faults);
-    buffers::fill(out);
+    replay_cases::fill(faults);
+    replay_cases::fill(out);
     if MOST_RECORDS < table::count(input) {
         return;
     }
@@ -49,8 +46,8 @@ fn print_order<R: Print>(rt: &R, input: &[u8], faults: &mut [u8], out: &mut [u8]
     let outcome = decl_order::check_decl_identifiers(input, faults, out);
     let tally = outcome.tally;
     print_faults(rt, tally, faults, b' ');
-    output::print(rt, outcome.records as u64, b' ');
-    output::print(rt, output::digest(out), b'\n');
+    replay_cases::print(rt, outcome.records as u64, b' ');
+    replay_cases::print(rt, replay_cases::digest(out), b'\n');
 }
 
 // How many of the faults found a buffer of this length keeps.
@@ -69,7 +66,7 @@ fn print_later<R: Print>(rt: &R, listed: &[u8], faults: &mut [u8]) {
     }
     match pass_checks::run_later(listed, faults) {
         Checked::Faulty(pass, total) => {
-            output::print(rt, pass as u64, b' ');
+            replay_cases::print(rt, pass as u64, b' ');
             let tally = Tally {
                 kept: kept_faults(total, faults.len()),
                 total,
@@ -77,7 +74,7 @@ fn print_later<R: Print>(rt: &R, listed: &[u8], faults: &mut [u8]) {
             print_faults(rt, tally, faults, b'\n');
         }
         Checked::Clean => {
-            output::print(rt, 0, b' ');
+            replay_cases::print(rt, 0, b' ');
             print_faults(rt, faults::no_faults(), faults, b'\n');
         }
     }
@@ -85,7 +82,7 @@ fn print_later<R: Print>(rt: &R, listed: &[u8], faults: &mut [u8]) {
 
 // Passes 3 to 9 on the table that pass 2 lists.
 fn print_checks<R: Print>(rt: &R, input: &[u8], faults: &mut [u8], out: &mut [u8]) {
-    buffers::fill(faults);
+    replay_cases::fill(faults);
     if MOST_RECORDS < table::count(input) {
         return;
     }
@@ -104,34 +101,34 @@ fn print_checks<R: Print>(rt: &R, input: &[u8], faults: &mut [u8], out: &mut [u8
 // The row of the reply and its values.
 fn print_reply<R: Print>(rt: &R, reply: Reply) {
     match reply {
-        Reply::Uneven => output::print(rt, 1, b' '),
-        Reply::TooLong => output::print(rt, 2, b' '),
+        Reply::Uneven => replay_cases::print(rt, 1, b' '),
+        Reply::TooLong => replay_cases::print(rt, 2, b' '),
         Reply::Malformed(place) => print_row(rt, 3, place as u64),
         Reply::Faulty(pass, total) => {
             print_row(rt, 4, pass as u64);
-            output::print(rt, total as u64, b' ');
+            replay_cases::print(rt, total as u64, b' ');
         }
-        Reply::Swollen => output::print(rt, 5, b' '),
+        Reply::Swollen => replay_cases::print(rt, 5, b' '),
         Reply::Unfit(key) => print_row(rt, 6, key.0 as u64),
         Reply::Loose(key) => print_row(rt, 7, key.0 as u64),
-        Reply::Overlisted => output::print(rt, 8, b' '),
+        Reply::Overlisted => replay_cases::print(rt, 8, b' '),
         Reply::NoRoom(needed) => print_row(rt, 9, needed as u64),
         Reply::Accepted(records) => print_row(rt, 10, records as u64),
     }
 }
 
 fn print_row<R: Print>(rt: &R, row: u64, value: u64) {
-    output::print(rt, row, b' ');
-    output::print(rt, value, b' ');
+    replay_cases::print(rt, row, b' ');
+    replay_cases::print(rt, value, b' ');
 }
 
 // The whole analyzer: the reply and the digests of both buffers.
 fn print_whole<R: Print>(rt: &R, input: &[u8], table: &mut [u8], faults: &mut [u8]) {
-    buffers::fill(table);
-    buffers::fill(faults);
+    replay_cases::fill(table);
+    replay_cases::fill(faults);
     print_reply(rt, analyzer::analyze(input, table, faults));
-    output::print(rt, output::digest(table), b' ');
-    output::print(rt, output::digest(faults), b'\n');
+    replay_cases::print(rt, replay_cases::digest(table), b' ');
+    replay_cases::print(rt, replay_cases::digest(faults), b'\n');
 }
 
 fn print_part<R: Print>(rt: &R, part: u32, input: &[u8], faults: &mut [u8], out: &mut [u8]) {
@@ -140,7 +137,7 @@ fn print_part<R: Print>(rt: &R, part: u32, input: &[u8], faults: &mut [u8], out:
         2 => print_scope(rt, input, faults),
         3 => print_order(rt, input, faults, out),
         4 => print_checks(rt, input, faults, out),
-        _ => output::print(rt, 0, b'?'),
+        _ => replay_cases::print(rt, 0, b'?'),
     }
 }
 
@@ -187,8 +184,8 @@ fn run<R: Input + Print>(rt: &R, input: &mut [u8], faults: &mut [u8], out: &mut 
 }
 
 fn main(rt: HostRuntime) {
-    let mut input = buffers::input_buffer();
-    let mut faults = buffers::buffer();
-    let mut out = buffers::buffer();
+    let mut input = replay_cases::buffers::input_buffer();
+    let mut faults = replay_cases::buffers::buffer();
+    let mut out = replay_cases::buffers::buffer();
     run(&rt, &mut input, &mut faults, &mut out);
 }

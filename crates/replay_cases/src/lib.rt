@@ -3,7 +3,9 @@
 // of the fault buffer) and the input.
 #![tactic(auto)]
 
-ghost use Rattle.std.specs.Prelude.{length};
+pub mod buffers;
+
+ghost use Rattle.std.specs.Prelude.{◌<◌, length};
 ghost use Rattle.replay_cases.specs.Cases.{CaseFits};
 
 use rules::limits::TABLE_LENGTH;
@@ -49,4 +51,37 @@ pub fn next_case<R: Read>(reader: &mut R, input: &mut [u8]) -> Next
         table,
         faults,
     })
+}
+
+fn wide(byte: u8) -> u64
+    ensures { result < 256 }
+{
+    byte as u64
+}
+
+// A digest of bytes, as the oracle makes it.
+pub fn digest(bytes: &[u8]) -> u64 {
+    let mut sum: u64 = 7;
+    let mut i: usize = 0;
+    while i < bytes.len() {
+        sum = (sum * 31 + wide(bytes[i])) % 0x1_0000_0000;
+        i += 1;
+    }
+    sum
+}
+
+// Fills a buffer with 7, so that a byte written too many shows.
+pub fn fill(buffer: &mut [u8]) {
+    let mut i: usize = 0;
+    while i < buffer.len() {
+        buffer[i] = 7;
+        i += 1;
+    }
+}
+
+// A number and a byte behind it. A write that fails is let go, as the output then differs.
+pub fn print<R: Print>(rt: &R, number: u64, end: u8) {
+    let _ = rt.print(number);
+    let text = [end];
+    let _ = rt.write_all(&text);
 }

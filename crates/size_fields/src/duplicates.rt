@@ -25,7 +25,7 @@ pub(crate) fn size_code(kind: u8) -> u16
 }
 
 // First a repeat: 23, 26, 29. Size and Count share one map, and ElementSize has its own.
-pub(crate) fn size_again(table: &[u8], sizes: &[u8], elements: &[u8], place: usize) -> Finding
+pub fn size_again(table: &[u8], sizes: &[u8], elements: &[u8], place: usize) -> Finding
     requires { Marked (decode table.now) Sizes sizes.now × Marked (decode table.now) ElementSizes elements.now }
     ensures { findings result ≡ size_again (decode table.now) place }
 {

@@ -18,7 +18,7 @@ fn start_at(starts: &[u16], place: usize) -> u16
 }
 
 // The first match of the record at `place` within its declaration, or what follows it.
-pub(crate) fn first_match(table: &[u8], starts: &[u16], target: Target, place: usize) -> Found
+pub fn first_match(table: &[u8], starts: &[u16], target: Target, place: usize) -> Found
     requires { SizeStarts (decode table.now) starts.now × (target ≡ target_at (decode table.now) place) }
     ensures { result ≡ first_within (decode table.now) target place }
 {

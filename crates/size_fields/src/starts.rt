@@ -1,7 +1,7 @@
 // Where pass 5's search for what a Size, Count or ElementSize names may start, so that few records are looked at.
-ghost use Rattle.std.specs.Prelude.{◌≡◌, List, ℕ, ◌+◌, ◌<◌, ◌≤◌, length, replicate};
+ghost use Rattle.std.specs.Prelude.{◌≡◌, ◌≤◌, length, replicate};
 ghost use Rattle.rules.specs.Table.{decode, at};
-ghost use Rattle.size_fields.specs.SizeStarts.{name_of, start_for, start_set, StartsSet, KeptPlaces, Filling, Stepping, FilledFrom, filled};
+ghost use Rattle.size_fields.specs.SizeStarts.{SizeStarts, name_of, start_for, KeptPlaces, SettingStart, SettingStarts, Stepping};
 
 use kinds::{is_decl, is_size};
 use table::{BODY_NAME, DIVISOR, NO_PLACE, PAYLOAD_NAME, REMAINDERS};
@@ -35,8 +35,8 @@ fn start_for(last: &[u16], end: usize, name: u16) -> u16
 
 // The start for the record at `place`, if it is a size.
 fn set_start(table: &[u8], place: usize, end: usize, last: &[u16], starts: &mut [u16])
-    requires { (place < 1600) × (end ≤ 1600) × Filling last.now starts.old }
-    ensures { starts.new ≡ start_set (decode table.now) last.now end place starts.old }
+    requires { SettingStart (decode table.now) place end last.now starts.old }
+    ensures { SizeStarts (decode table.now) starts.new }
 {
     if is_size(table::kind(table, place)) {
         let s = start_for(last, end, table::second(table, place));
@@ -46,8 +46,8 @@ fn set_start(table: &[u8], place: usize, end: usize, last: &[u16], starts: &mut 
 
 // The starts for the sizes of the declaration at `decl`. The next one stands at `end`.
 fn set_starts(table: &[u8], decl: usize, end: usize, last: &[u16], starts: &mut [u16])
-    requires { (decl < end) × (end ≤ 1600) × Filling last.now starts.old }
-    ensures { StartsSet (decode table.now) last.now end decl end starts.old starts.new }
+    requires { SettingStarts (decode table.now) decl end last.now starts.old }
+    ensures { SizeStarts (decode table.now) starts.new }
 {
     let mut q = decl + 1;
     while q < end {
@@ -59,7 +59,7 @@ fn set_starts(table: &[u8], decl: usize, end: usize, last: &[u16], starts: &mut 
 // One place more. The result is the next declaration from `place` on.
 fn step(table: &[u8], place: usize, end: usize, last: &mut [u16], starts: &mut [u16]) -> usize
     requires { Stepping (decode table.now) place end last.old starts.old }
-    ensures { ((old : List ℕ) → FilledFrom (decode table.now) old starts.old end → FilledFrom (decode table.now) old starts.new result) × KeptPlaces (decode table.now) last.new result place }
+    ensures { SizeStarts (decode table.now) starts.new × KeptPlaces (decode table.now) last.new result place }
 {
     if is_decl(table::kind(table, place)) {
         set_starts(table, place, end, last, starts);
@@ -72,8 +72,8 @@ fn step(table: &[u8], place: usize, end: usize, last: &mut [u16], starts: &mut [
 
 // All places of the table, from the last to the first.
 fn fill_places(table: &[u8], last: &mut [u16], starts: &mut [u16])
-    requires { (length (decode table.now) ≤ 1600) × (last.old ≡ replicate 4093 65535) × (1600 ≤ length starts.old) }
-    ensures { starts.new ≡ filled (decode table.now) starts.old }
+    requires { (length (decode table.now) ≤ 1600) × (last.old ≡ replicate 4093 65535) × (1600 ≤ length starts.old) × SizeStarts (decode table.now) starts.old }
+    ensures { SizeStarts (decode table.now) starts.new }
 {
     let mut p = table::count(table);
     let mut e = p;
@@ -83,10 +83,10 @@ fn fill_places(table: &[u8], last: &mut [u16], starts: &mut [u16])
     }
 }
 
-// Sets the start of each size that stands in a declaration.
-pub(crate) fn fill(table: &[u8], starts: &mut [u16])
-    requires { (length (decode table.now) ≤ 1600) × (1600 ≤ length starts.old) }
-    ensures { starts.new ≡ filled (decode table.now) starts.old }
+// Fills `starts`, in which no start is known at first.
+pub fn fill(table: &[u8], starts: &mut [u16])
+    requires { (length (decode table.now) ≤ 1600) × (1600 ≤ length starts.old) × SizeStarts (decode table.now) starts.old }
+    ensures { SizeStarts (decode table.now) starts.new }
 {
     let mut last = [NO_PLACE; REMAINDERS];
     fill_places(table, &mut last, starts);

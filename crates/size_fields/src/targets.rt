@@ -55,7 +55,7 @@ fn misnamed(code: u16, table: &[u8], place: usize, found: Found) -> Finding
 }
 
 // Then missing 24, 27, 30, or no array 25, 28, 31.
-pub(crate) fn size_target(table: &[u8], starts: &[u16], place: usize) -> Finding
+pub fn size_target(table: &[u8], starts: &[u16], place: usize) -> Finding
     requires { SizeStarts (decode table.now) starts.now }
     ensures { findings result ≡ size_target (decode table.now) place }
 {

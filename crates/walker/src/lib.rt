@@ -1,10 +1,10 @@
 // A walker: the table that it is lent and the current place. The functions over it take it apart and call one on the
-// slice and the numbers; `next_of` serves callers that have a slice and numbers.
+// slice and the number; `kind_after` serves callers that have a slice and a number.
 #![tactic(auto)]
 
-ghost use Rattle.std.specs.Prelude.{◌≡◌};
-ghost use Rattle.rules.specs.Table.{decode};
-ghost use Rattle.walker.specs.Steps.{next_of};
+ghost use Rattle.std.specs.Prelude.{◌≡◌, ◌+◌};
+ghost use Rattle.rules.specs.Table.{decode, at};
+ghost use Rattle.walker.specs.Steps.{next_place};
 
 #[derive(Drop)]
 struct Walker<'a> {
@@ -12,19 +12,14 @@ struct Walker<'a> {
     place: usize,
 }
 
-// The first place from `from` on whose record is of one of these kinds, a bit each, or the end of the table.
-fn next_place(table: &[u8], kinds: u64, from: usize) -> usize
-    ensures { result ≡ next_of kinds (decode table.now) from }
+// The place behind `place`; past the end `place` stays.
+fn next_place(table: &[u8], place: usize) -> usize
+    ensures { result ≡ next_place (decode table.now) place }
 {
-    let end = table::count(table);
-    let mut p = from;
-    while p < end {
-        if (kinds >> (table::kind(table, p) % 64)) % 2 == 1 {
-            return p;
-        }
-        p += 1;
+    if place < table::count(table) {
+        return place + 1;
     }
-    end
+    place
 }
 
 // A walker at a place of a table.
@@ -34,23 +29,27 @@ fn new<'a>(table: &'a [u8], place: usize) -> Walker<'a>
     Walker { table, place }
 }
 
-// The walker at the next place of one of these kinds.
-fn seek<'a>(walker: Walker<'a>, kinds: u64) -> Walker<'a>
-    ensures { (result.table ≡ walker.entry.table) × (result.place ≡ next_of kinds (decode walker.entry.table.now) walker.entry.place) }
+// The kind of the record at the walker's place: 0 past the end.
+fn kind<'a>(walker: Walker<'a>) -> u8
+    ensures { result ≡ (at (decode walker.entry.table.now) walker.entry.place).kind }
 {
-    let place = walker.place;
-    let next = next_place(walker.table, kinds, place);
+    table::kind(walker.table, walker.place)
+}
+
+// The walker at the next place.
+fn step<'a>(walker: Walker<'a>) -> Walker<'a>
+    ensures { (result.table ≡ walker.entry.table) × (result.place ≡ next_place (decode walker.entry.table.now) walker.entry.place) }
+{
+    let next = next_place(walker.table, walker.place);
     Walker {
         table: walker.table,
         place: next,
     }
 }
 
-// The first place from `from` on whose record is of one of these kinds, or the end of the table.
-pub fn next_of(table: &[u8], kinds: u64, from: usize) -> usize
-    ensures { result ≡ next_of kinds (decode table.now) from }
+// The kind of the record behind `place`: 0 past the end.
+pub fn kind_after(table: &[u8], place: usize) -> u8
+    ensures { result ≡ (at (decode table.now) (place + 1)).kind }
 {
-    let start = new(table, from);
-    let found = seek(start, kinds);
-    found.place
+    kind(step(new(table, place)))
 }

@@ -1,14 +1,11 @@
 -- `enum_bounds::fill` meets its contract: after j turns the bounds of the first j ranges are there. Assumes nothing.
 use borrow.Author.Rules.{rules}
 use native.Mathlib.Omega.{arith}
-use Prim.Native.Nat.{◌-◌, ◌≤◌}
 use mathlib.Core.Path.{◌≡◌, refl}
-use mathlib.Core.List.{◌++◌}
-use lib.ListN.{length, take, drop, length-set}
+use lib.ListN.{length-set}
 use Rattle.rules.specs.Table.{decode, at}
 use Rattle.rules.specs.EnumDeclarations.{lesser, greater}
-use Rattle.enum_bounds.specs.Bounds.{lows_of, highs_of}
-use Rattle.enum_bounds.proofs.Written.{written-more, written_all}
+use Rattle.enum_bounds.proofs.Counts.{bounds-more}
 use Rattle.enum_bounds.proofs.fill.Goals as goal
 
 pub loop-j-init : goal.loop-j-init
@@ -21,8 +18,8 @@ overflow_cast-places c =
 pub loop-j-preserved : goal.loop-j-preserved
 loop-j-preserved c =
     let rs = decode c.args.table.now in (
-      rw (c.lesser.ensures, c.at-r.ensures) (written-more (λ q. lesser (at rs q)) c.args.lows.now _ _ c.loop-j.j c.loop-j.invariant.0 (search rules) (search rules)),
-      rw (c.greater.ensures, c.at-r.ensures) (written-more (λ q. greater (at rs q)) c.args.highs.now _ _ c.loop-j.j c.loop-j.invariant.1 (search rules) (search rules)),
+      rw (c.lesser.ensures, c.at-r.ensures) (bounds-more (λ q. lesser (at rs q)) _ _ c.loop-j.j (search rules) (search rules) c.loop-j.invariant.0),
+      rw (c.greater.ensures, c.at-r.ensures) (bounds-more (λ q. greater (at rs q)) _ _ c.loop-j.j (search rules) (search rules) c.loop-j.invariant.1),
       search rules,
       simp length-set c.loop-j.invariant.3,
       simp length-set c.loop-j.invariant.4,
@@ -31,4 +28,4 @@ loop-j-preserved c =
 pub returns : goal.returns
 returns c =
     let e : c.loop-j.j ≡ c.args.count = omega (arith, c.loop-j.invariant.2, c.loop-j-test.false) in
-    (written_all _ _ _ _ _ c.loop-j.invariant.0 _ e c.requires.0, written_all _ _ _ _ _ c.loop-j.invariant.1 _ e c.requires.0)
+    (rw e at c.loop-j.invariant.0, rw e at c.loop-j.invariant.1)

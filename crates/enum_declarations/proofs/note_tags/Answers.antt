@@ -2,17 +2,13 @@
 use borrow.Author.Rules.{rules}
 use native.Mathlib.Omega.{arith}
 use native.Mathlib.Nat.{add-zero, add_assoc}
-use Prim.Native.Nat.{ℕ, ◌+◌, ◌-◌, ◌≤◌}
-use mathlib.Core.Path.{◌≡◌, refl, sym, ap, ◌∙◌}
-use lib.ListN.{length}
+use Prim.Native.Nat.{ℕ, ◌+◌}
+use mathlib.Core.Path.{refl, sym, ap, ◌∙◌}
 use Rattle.rules.specs.Table.{decode}
-use Rattle.rules.specs.Places.{each}
-use Rattle.rules.specs.Faults.{log}
-use Rattle.rules.specs.EnumDeclarations.{tag_faults, tags_faults}
-use Rattle.faults.specs.Notes.{noted_all}
+use Rattle.rules.specs.EnumDeclarations.{tags_faults}
 use Rattle.faults.proofs.Laws.{noted-start, noted-place, noted-end, each-total}
 use Rattle.enum_tags.specs.Before.{range_before}
-use Rattle.enum_tags.proofs.Laws.{tag-few, before-range}
+use Rattle.enum_tags.proofs.Laws.{tag-few}
 use Rattle.enum_declarations.proofs.note_tags.Goals as goal
 
 pub loop-i-init : goal.loop-i-init
@@ -29,7 +25,7 @@ pub loop-i-preserved : goal.loop-i-preserved
 loop-i-preserved c =
     let next = ap (λ (p : ℕ). range_before (decode c.args.table.now) p) (sym (add_assoc (c.args.decl + 1) c.loop-i.i 1)) in
     let noted = noted-place _ c.loop-i.i _ _ c.loop-i.invariant.0 refl c.note_tag-kept.ensures in
-    (noted, search rules, search rules, next ∙ before-range _ _ _ _ c.loop-i.invariant.3 c.after_range-after.ensures)
+    (noted, search rules, search rules, next ∙ c.after_range-after.ensures)
 
 pub returns : goal.returns
 unfolding tags_faults

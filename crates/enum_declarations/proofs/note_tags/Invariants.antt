@@ -1,18 +1,13 @@
 -- `enum_declarations::note_tags` meets its contract: after i turns the faults of the first i tags are noted. Assumes nothing.
-use borrow.Author.Rules.{rules}
-use native.Mathlib.Omega.{arith}
-use native.Mathlib.Nat.{add-zero, add_assoc}
-use Prim.Native.Nat.{ℕ, ◌+◌, ◌-◌, ◌≤◌}
-use mathlib.Core.Path.{◌≡◌, refl, sym, ap, ◌∙◌}
+use Prim.Native.Nat.{◌+◌, ◌-◌, ◌≤◌}
+use mathlib.Core.Path.{◌≡◌}
 use lib.ListN.{length}
 use Rattle.rules.specs.Table.{decode}
 use Rattle.rules.specs.Places.{each}
 use Rattle.rules.specs.Faults.{log}
-use Rattle.rules.specs.EnumDeclarations.{tag_faults, tags_faults}
+use Rattle.rules.specs.EnumDeclarations.{tag_faults}
 use Rattle.faults.specs.Notes.{noted_all}
-use Rattle.faults.proofs.Laws.{noted-start, noted-place, noted-end, each-total}
 use Rattle.enum_tags.specs.Before.{range_before}
-use Rattle.enum_tags.proofs.Laws.{tag-few, before-range}
 use Rattle.enum_declarations.proofs.note_tags.Given as goal
 
 abbrev pub invariant-loop-i : goal.invariant-loop-i

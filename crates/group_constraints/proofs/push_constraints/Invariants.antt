@@ -1,11 +1,9 @@
 -- `group_constraints::push_constraints` meets its contract: the stack, and the constraints still to come. Assumes nothing.
-use borrow.Author.Rules.{rules}
-use native.Mathlib.Omega.{arith}
-use Prim.Native.Nat.{◌<◌, ◌-◌}
-use mathlib.Core.Path.{◌≡◌, sym, ◌∙◌}
+use Prim.Native.Nat.{◌-◌}
+use mathlib.Core.Path.{◌≡◌}
 use lib.ListN.{length}
 use Rattle.rules.specs.Table.{decode}
-use Rattle.group_constraints.proofs.Laws.{Pushing, push-start, push-fits, push-one, push-none, push-stop, push-end}
+use Rattle.group_constraints.proofs.Laws.{Pushing}
 use Rattle.group_constraints.proofs.push_constraints.Given as goal
 
 abbrev pub invariant-loop-i : goal.invariant-loop-i

@@ -1,5 +1,4 @@
 -- `group_table::fit_after` meets its contract. Assumes nothing.
-use borrow.Author.Rules.{rules}
 use Rattle.group_table.specs.Outputs.{fit_after}
 use Rattle.group_table.proofs.fit_after.Goals as goal
 
@@ -13,4 +12,4 @@ returns-then-next c = rw (c.in-All.is, c.if-next.true)
 
 pub returns-else-next : goal.returns-else-next
 unfolding fit_after
-returns-else-next c = rw (c.in-All.is, c.if-next.false, c.field_key.ensures)
+returns-else-next c = rw (c.in-All.is, c.if-next.false)

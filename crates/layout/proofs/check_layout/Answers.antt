@@ -1,19 +1,16 @@
 -- `layout::check_layout` meets its contract: the places below p are sound. Assumes nothing.
-use borrow.Author.Rules.{rules}
 use native.Mathlib.Omega.{arith}
 use borrow.Author.Tests.{eq-eqb, ne_eqb, lt-ltb, le-ltb}
-use Prim.Native.Nat.{◌-◌, ◌%◌}
+use Prim.Native.Nat.{◌%◌}
 use mathlib.Core.Path.{◌≡◌, refl, sym, ap, ◌∙◌}
 use mathlib.Core.Bool.{not}
 use native.Mathlib.Nat.{sub-zero}
 use lib.ListN.{length}
-use Rattle.rules.specs.Table.{decode}
 use Rattle.rules.specs.Places.{first}
-use Rattle.rules.specs.Layouts.{layout, unsound_at}
+use Rattle.rules.specs.Layouts.{layout}
 use Rattle.rules.specs.Replies.{layout_numbered}
 use Rattle.rules.specs.declared.Layout.TheVariants.{Uneven, TooLong, Malformed, Sound}
 use Rattle.table.proofs.Laws.{up-hit, up-miss, up-end}
-use Rattle.layout.specs.Surroundings.{around}
 use Rattle.layout.proofs.Laws.{around-start, around-next}
 use Rattle.layout.proofs.check_layout.Goals as goal
 
@@ -22,7 +19,7 @@ unfolding layout
 returns-then-table-ne0 c =
     let t = c.args.table.now in
     let e : Uneven ≡ layout t = rw (ne_eqb (length t % 40) 0 (λ z. c.if-table-ne0.true (omega (arith, z)))) in
-    ap layout_numbered e
+    record { value = e; numbered = ap layout_numbered e }
 
 pub returns-then-n-gt-MOST_RECORDS : goal.returns-then-n-gt-MOST_RECORDS
 unfolding layout
@@ -31,7 +28,7 @@ returns-then-n-gt-MOST_RECORDS c =
     let even = eq-eqb (length t % 40) 0 (omega (arith, c.if-table-ne0.false)) in
     let long = lt-ltb 1600 c.count-n.result (omega (arith, c.if-n-gt-MOST_RECORDS.true)) in
     let e : TooLong ≡ layout t = rw (even, ← c.count-n.ensures, long) in
-    ap layout_numbered e
+    record { value = e; numbered = ap layout_numbered e }
 
 pub loop-p-init : goal.loop-p-init
 loop-p-init c = (refl, around-start _)
@@ -48,7 +45,7 @@ returns-then-not-sound_at c =
     let fits = le-ltb 1600 c.count-n.result (omega (arith, c.if-n-gt-MOST_RECORDS.false)) in
     let unsound = ap not (sym c.sound_at.ensures ∙ c.if-not-sound_at.true) in
     let e : Malformed c.loop-p.p ≡ layout t = rw (even, ← c.count-n.ensures, fits, ← up-hit _ _ _ c.loop-p.p c.loop-p.invariant.0 c.loop-p-test.true unsound ∙ ap (first _ 0) (sub-zero _)) in
-    ap layout_numbered e
+    record { value = e; numbered = ap layout_numbered e }
 
 pub loop-p-preserved : goal.loop-p-preserved
 loop-p-preserved c =
@@ -61,4 +58,4 @@ returns c =
     let even = eq-eqb (length t % 40) 0 (omega (arith, c.if-table-ne0.false)) in
     let fits = le-ltb 1600 c.count-n.result (omega (arith, c.if-n-gt-MOST_RECORDS.false)) in
     let e : Sound ≡ layout t = rw (even, ← c.count-n.ensures, fits, ← up-end _ _ _ c.loop-p.p c.loop-p.invariant.0 c.loop-p-test.false ∙ ap (first _ 0) (sub-zero _)) in
-    ap layout_numbered e
+    record { value = e; numbered = ap layout_numbered e }

@@ -1,13 +1,9 @@
 -- `pass_checks::run_later` meets its contract: the passes below this one find nothing, and the buffer is as it was. Assumes nothing.
-use borrow.Author.Rules.{rules}
-use native.Mathlib.Omega.{arith}
 use Prim.Native.Nat.{◌-◌, ◌≤◌}
-use mathlib.Core.Path.{◌≡◌, refl, ◌∙◌}
+use mathlib.Core.Path.{◌≡◌}
 use Rattle.rules.specs.Table.{decode}
 use Rattle.rules.specs.Places.{first}
-use Rattle.table.proofs.Laws.{up-hit, up-miss, up-end}
-use Rattle.pass_checks.specs.Later.{finds_later, by_later, later}
-use Rattle.pass_checks.proofs.Laws.{clean, faulty}
+use Rattle.pass_checks.specs.Later.{finds_later}
 use Rattle.pass_checks.proofs.run_later.Given as goal
 
 abbrev pub invariant-loop-pass : goal.invariant-loop-pass

@@ -13,18 +13,10 @@ returns-then-tally-gt0 c =
     let rs = decode c.args.input.now in
     told c.args.faults.now (pass1 rs) e 1 c.args.table.now ∙ sym (faulty-one rs c.args.table.now c.args.faults.now (omega (arith, total-is c.args.faults.now (pass1 rs) e)))
 
-pub order_large-requires : goal.order_large-requires
-order_large-requires c =
-    (c.requires, (no-fault c.args.faults.now (pass1 (decode c.args.input.now)) c.scope_new-tally.ensures (search rules)).1)
-
-pub returns-then-count-gt-FEW_RECORDS : goal.returns-then-count-gt-FEW_RECORDS
-returns-then-count-gt-FEW_RECORDS c =
-    rw (← (no-fault c.args.faults.now (pass1 (decode c.args.input.now)) c.scope_new-tally.ensures (search rules)).0) c.order_large.ensures
-
-pub order_small-requires : goal.order_small-requires
-order_small-requires c =
-    (omega (arith, c.if-count-gt-FEW_RECORDS.false, c.count.ensures), (no-fault c.args.faults.now (pass1 (decode c.args.input.now)) c.scope_new-tally.ensures (search rules)).1)
+pub check_order-requires : goal.check_order-requires
+check_order-requires c =
+    (c.requires.0, search rules, (no-fault c.args.faults.now (pass1 (decode c.args.input.now)) c.scope_new-tally.ensures (search rules)).1)
 
 pub returns : goal.returns
 returns c =
-    rw (← (no-fault c.args.faults.now (pass1 (decode c.args.input.now)) c.scope_new-tally.ensures (search rules)).0) c.order_small.ensures
+    rw (← (no-fault c.args.faults.now (pass1 (decode c.args.input.now)) c.scope_new-tally.ensures (search rules)).0) c.check_order.ensures

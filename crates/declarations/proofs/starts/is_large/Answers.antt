@@ -1,8 +1,8 @@
 -- `declarations::starts::is_large` meets its contract. Assumes nothing.
-use borrow.Author.Rules.{rules}
-use Rattle.declarations.specs.Starts.{is_large}
+use borrow.Author.Tests.{leb-true}
+use lib.Dec.{ltb}
+use Rattle.table.proofs.Searches.{and-true}
 use Rattle.declarations.proofs.starts.is_large.Goals as goal
 
 pub returns : goal.returns
-unfolding is_large
-returns c = rw (← c.count-n.ensures)
+returns c = λ e. rw (← c.count-n.ensures) (leb-true c.count-n.result 1600 (and-true (ltb 64 c.count-n.result) _ e).1)

@@ -1,19 +1,15 @@
--- `group_sizes::targets::fill_from` meets its contract: the targets below p are written. Assumes nothing.
-use borrow.Author.Rules.{rules}
+-- `group_sizes::targets::fill_from` meets its contract: the group fields below p are resolved. Assumes nothing.
 use native.Mathlib.Omega.{arith}
-use mathlib.Core.Path.{◌≡◌, refl, sym, ap, ◌∙◌}
-use Prim.Native.Nat.{◌-◌, ◌≤◌}
-use lib.ListN.{length, length-set}
-use Rattle.rules.specs.Table.{decode}
+use mathlib.Core.Path.{refl, sym, ap, ◌∙◌}
+use lib.ListN.{length-set}
 use Rattle.rules.specs.Places.{decl_named}
-use Rattle.group_sizes.specs.Targets.{with_targets}
-use Rattle.group_sizes.proofs.targets.Known.{named_in, targets-other, targets_next, targets-none, targets-end}
+use Rattle.group_sizes.proofs.targets.Known.{named_in, known-other, known_next, known-never, known-end}
 use Rattle.group_sizes.proofs.targets.fill_from.Goals as goal
 
 pub loop-p-init : goal.loop-p-init
 loop-p-init c =
     let e = c.count-end.ensures in
-    (c.requires.targets_value.0, omega (arith, c.requires.table_len_bound.1, e), e, refl)
+    (c.requires.table_len_bound.2, omega (arith, c.requires.table_len_bound.1, e), e, refl)
 
 pub overflow_cast-targets : goal.overflow_cast-targets
 overflow_cast-targets c =
@@ -26,15 +22,14 @@ offset_bounds-targets-q c =
 pub bounds-targets-q : goal.bounds-targets-q
 bounds-targets-q c =
     let v = c.loop-p.invariant in
-    omega (arith, v.3, c.requires.table_len_bound.2, v.2, c.loop-p-test.true)
+    omega (arith, v.0.long, v.2, c.loop-p-test.true)
 
 pub loop-p-preserved-in-At : goal.loop-p-preserved-in-At
 loop-p-preserved-in-At c =
     let v = c.loop-p.invariant in
     let h = c.loop-p-test.true in
-    let e = c.decl_named.ensures ∙ ap (decl_named _) c.second-x.ensures in
-    let k = sym c.kind.ensures ∙ c.if-kind-eq-GROUP_FIELD.true in (
-      targets_next _ _ _ v.0 k e c.in-At.is,
+    let e = c.decl_named.ensures ∙ ap (decl_named _) c.second-x.ensures in (
+      known_next v.0 (omega (arith, v.2, h)) e c.in-At.is,
       omega arith,
       v.2,
       length-set c.loop-p.targets c.loop-p.p c.in-At.g ∙ v.3,
@@ -46,15 +41,15 @@ loop-p-preserved-in_default c =
     let h = c.loop-p-test.true in
     let e = c.decl_named.ensures ∙ ap (decl_named _) c.second-x.ensures in
     let k = sym c.kind.ensures ∙ c.if-kind-eq-GROUP_FIELD.true in
-    (targets-none _ _ _ v.0 k e c.in_default.is, omega arith, v.2, v.3)
+    (known-never v.0 c.requires.groups_first.0 (omega (arith, v.2, h)) k e c.in_default.is, omega arith, v.2, v.3)
 
 pub loop-p-preserved : goal.loop-p-preserved
 loop-p-preserved c =
     let v = c.loop-p.invariant in
-    (targets-other _ _ _ v.0 (λ e. c.if-kind-eq-GROUP_FIELD.false (c.kind.ensures ∙ e)), omega arith, v.2, v.3)
+    (known-other v.0 (λ e. c.if-kind-eq-GROUP_FIELD.false (c.kind.ensures ∙ e)), omega arith, v.2, v.3)
 
 pub returns : goal.returns
-returns c = let v = c.loop-p.invariant in let h = c.loop-p-test.false in targets-end _ _ v.0 (omega arith)
+returns c = let v = c.loop-p.invariant in let h = c.loop-p-test.false in known-end v.0 (omega arith)
 
 pub shape_of-targets : goal.shape_of-targets
 shape_of-targets c = c.loop-p.invariant.3
