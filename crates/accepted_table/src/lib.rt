@@ -8,7 +8,7 @@ ghost use Rattle.rules.specs.Replies.{answered, by_size};
 ghost use Rattle.group_sizes.specs.GroupsFirst.{GroupsFirst};
 ghost use Rattle.accepted_table.specs.Wrote.{Wrote};
 
-use inline_groups::Inlining;
+use inline_groups::InlineError;
 use rules::Reply;
 use rules::limits::{RECORD_LENGTH, TABLE_LENGTH};
 use table::FEW_RECORDS;
@@ -16,31 +16,25 @@ use table::FEW_RECORDS;
 // The bytes of 128 records, which most small tables fit inlined.
 const SMALL_LENGTH: usize = RECORD_LENGTH * 2 * FEW_RECORDS;
 
-// What came of writing the table: a reply, or that the buffer is too short for the inlined table.
-#[derive(Clone, Copy)]
-enum TableWritten {
-    Done(Reply),
-    Short,
-}
-
-// Groups inlined into a buffer, then flags made: the rows from Swollen on, for a table in listed order.
-fn write_table(listed: &[u8], expanded: &mut [u8], table: &mut [u8]) -> TableWritten
+// Groups inlined into a buffer, then flags made: the rows from Swollen on, for a table in listed order. None where the buffer is too short
+// for the inlined table.
+fn write_table(listed: &[u8], expanded: &mut [u8], table: &mut [u8]) -> Option<Reply>
     requires { (length (decode listed.now) ≤ 1600) × GroupsFirst (decode listed.now) }
     ensures { Wrote (length expanded.old) (decode listed.now) table.old table.new result }
 {
     match inline_groups::inline_groups(listed, expanded) {
-        Inlining::Swollen => TableWritten::Done(Reply::Swollen),
-        Inlining::BufferShort => TableWritten::Short,
-        Inlining::Unfit(key) => TableWritten::Done(Reply::Unfit(key)),
-        Inlining::Inlined(n) => {
+        Ok(n) => {
             let end = RECORD_LENGTH * n;
-            TableWritten::Done(desugar_flags::desugar_flags(&expanded[..end], table))
+            Some(desugar_flags::desugar_flags(&expanded[..end], table))
         }
+        Err(InlineError::Swollen) => Some(Reply::Swollen),
+        Err(InlineError::BufferShort) => None,
+        Err(InlineError::Unfit(key)) => Some(Reply::Unfit(key)),
     }
 }
 
 // With the small buffer.
-fn write_small(listed: &[u8], table: &mut [u8]) -> TableWritten
+fn write_small(listed: &[u8], table: &mut [u8]) -> Option<Reply>
     requires { (length (decode listed.now) ≤ 1600) × GroupsFirst (decode listed.now) }
     ensures { Wrote 5120 (decode listed.now) table.old table.new result }
 {
@@ -54,10 +48,7 @@ fn write_large(listed: &[u8], table: &mut [u8]) -> Reply
     ensures { (f : List ℕ) → answered result table.new f ≡ by_size (inlined (decode listed.now)) table.old f }
 {
     let mut expanded = [0u8; TABLE_LENGTH];
-    match write_table(listed, &mut expanded, table) {
-        TableWritten::Done(reply) => reply,
-        TableWritten::Short => Reply::Swollen,
-    }
+    write_table(listed, &mut expanded, table).unwrap_or(Reply::Swollen)
 }
 
 // With the small buffer first where it is likely to do: a large one takes longer to clear than a small table to analyze.
@@ -69,7 +60,7 @@ pub fn write_listed(listed: &[u8], table: &mut [u8]) -> Reply
         return write_large(listed, table);
     }
     match write_small(listed, table) {
-        TableWritten::Done(reply) => reply,
-        TableWritten::Short => write_large(listed, table),
+        Some(reply) => reply,
+        None => write_large(listed, table),
     }
 }

@@ -6,8 +6,8 @@ ghost use Rattle.rules.specs.Table.{decode};
 ghost use Rattle.rules.specs.Replies.{answered, by_passes, answer};
 
 use passes::check_passes;
+use rules::Reply;
 use rules::limits::{RECORD_LENGTH, TABLE_LENGTH};
-use rules::{Layout, Reply};
 use table::FEW_RECORDS;
 
 // The bytes of a table of few records.
@@ -47,9 +47,7 @@ pub fn analyze(input: &[u8], table: &mut [u8], faults: &mut [u8]) -> Reply
     ensures { answered result table.new faults.new ≡ answer input.now table.old faults.old }
 {
     match layout::check_layout(input) {
-        Layout::Uneven => Reply::Uneven,
-        Layout::TooLong => Reply::TooLong,
-        Layout::Malformed(place) => Reply::Malformed(place),
-        Layout::Sound => check_table(input, table, faults),
+        Ok(()) => check_table(input, table, faults),
+        Err(error) => Reply::from(error),
     }
 }

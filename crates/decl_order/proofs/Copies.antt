@@ -1,4 +1,5 @@
 -- Tables in parts: the bytes and the records of listed declarations. Assumes nothing.
+use Rattle.std.proofs.Common.{None, Some}
 use mathlib.Core.Path.{◌≡◌, refl, sym, ◌∙◌, ap, subst}
 use mathlib.Core.List.Memᴰ
 use mathlib.Core.List.{List, [], ◌∷◌, ◌++◌, append_assoc, append-nil, Memᴰ}
@@ -13,7 +14,6 @@ use Rattle.rules.specs.Table.{record_at, records, decode}
 use Rattle.rules.specs.Places.{holds_at, first_from, member_count}
 use Rattle.rules.specs.DeclIdentifiers.{decl_records, all_records}
 use Rattle.rules.specs.declared.Record.{Record}
-use Rattle.rules.specs.declared.Found.TheVariants.{At, Nothing}
 use Rattle.rules.specs.declared.Target.TheVariants.{Decl}
 use Rattle.table.proofs.Laws.{length-decode, first-in}
 use Rattle.search.proofs.members.Laws.{members-in}
@@ -65,11 +65,11 @@ module _ (t : List ℕ) (d : ℕ) (h : 40 * d ≤ length t) where
 -- ---- the records of a declaration
 
 module _ (rs : List Record) (d : ℕ) where
-  pub count-to : (e : ℕ) → first_from rs Decl (d + 1) ≡ At e → (d < e) × (e - d ≡ 1 + member_count rs d)
+  pub count-to : (e : ℕ) → first_from rs Decl (d + 1) ≡ Some e → (d < e) × (e - d ≡ 1 + member_count rs d)
   unfolding member_count
   count-to e h = let z = first-in (holds_at rs Decl) (length rs) (d + 1) e h in let l = z.0 in (omega arith, rw h (omega arith))
 
-  pub count-rest : d < length rs → first_from rs Decl (d + 1) ≡ Nothing → length rs - d ≡ 1 + member_count rs d
+  pub count-rest : d < length rs → first_from rs Decl (d + 1) ≡ None → length rs - d ≡ 1 + member_count rs d
   unfolding member_count
   count-rest l h = rw h (omega arith)
 

@@ -7,7 +7,7 @@ use native.Mathlib.Omega.{arith}
 use native.Mathlib.Decide.{dec_lt}
 use borrow.Author.Tests.{eq-eqb}
 use lib.ListN.{length, length-append}
-use Rattle.std.specs.Prelude.{if◌then◌else◌}
+use Rattle.std.specs.Prelude.{if◌then◌else◌, None, Option, Some, ℕ}
 use Rattle.rules.specs.Kinds.{is_named_decl}
 use Rattle.rules.specs.Table.{at}
 use Rattle.rules.specs.Places.{nearest, each, holds_at}
@@ -15,8 +15,6 @@ use Rattle.rules.specs.Scopes.{redeclared, pass1_at, pass1}
 use Rattle.rules.specs.Ordering.{Declared, UniqueNames}
 use Rattle.rules.specs.declared.Record.{Record}
 use Rattle.rules.specs.declared.Fault.{Fault}
-use Rattle.rules.specs.declared.Found.{Found}
-use Rattle.rules.specs.declared.Found.TheVariants.{At, Nothing}
 use Rattle.rules.specs.declared.Target.TheVariants.{DeclNamed}
 use Rattle.table.proofs.Searches.{false-true, nearest-none}
 
@@ -48,9 +46,9 @@ module _ (rs : List Record) (clean : pass1 rs ≡ []) where
       there : holds_at rs (DeclNamed (at rs p).name) q ≡ true
       there = rw (dq.1, eq-eqb (at rs q).name (at rs p).name e)
 
-      go : (f : Found) → nearest (holds_at rs (DeclNamed (at rs p).name)) p ≡ f → ⊥
-      go Nothing h = false-true (sym (nearest-none (holds_at rs (DeclNamed (at rs p).name)) p q h l) ∙ there)
-      go (At d) h = let z = rw (dp.1, h) at none in absurd (omega arith)
+      go : (f : Option ℕ) → nearest (holds_at rs (DeclNamed (at rs p).name)) p ≡ f → ⊥
+      go None h = false-true (sym (nearest-none (holds_at rs (DeclNamed (at rs p).name)) p q h l) ∙ there)
+      go (Some d) h = let z = rw (dp.1, h) at none in absurd (omega arith)
 
   pub unique-names : UniqueNames rs
   unique-names d e dd de n = go (dec_lt d e) (dec_lt e d)

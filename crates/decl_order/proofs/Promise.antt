@@ -12,7 +12,7 @@ use native.Mathlib.Omega.{arith}
 use borrow.Author.Tests.{eqb-true, eqb-false, eq-eqb, ne_eqb}
 use lib.Dec.{eqb}
 use lib.ListN.{length, get_or}
-use Rattle.std.specs.Prelude.{if◌then◌else◌}
+use Rattle.std.specs.Prelude.{if◌then◌else◌, None, Option, Some, ℕ}
 use Rattle.rules.specs.Kinds as kind
 use Rattle.rules.specs.Kinds.{is, is_decl, is_named_decl}
 use Rattle.rules.specs.Table.{decode, at, bit1, named}
@@ -21,8 +21,6 @@ use Rattle.rules.specs.Visits.{PlaceFault, visit_all}
 use Rattle.rules.specs.DeclIdentifiers.{group_reference, type_reference, parent_reference, test_reference, field_reference, field_references, own_reference, references, root_reference, root_references, visited, fault_of, pass2, order}
 use Rattle.rules.specs.Ordering.{Declared, Named, UniqueNames, HeldBy, is_typed, is_followed_type, has_parent, Allowed, Follows, by_group, by_type, by_parent, Sequence, last, next, Accepts, OrderingPromise, Demand3}
 use Rattle.rules.specs.declared.Record.{Record}
-use Rattle.rules.specs.declared.Found.{Found}
-use Rattle.rules.specs.declared.Found.TheVariants.{At, Nothing}
 use Rattle.rules.specs.declared.Target.TheVariants.{DeclNamed}
 use Rattle.rules.specs.declared.Reference.{Reference}
 use Rattle.rules.specs.declared.Reference.TheVariants.{Nowhere, Wrong, Follow}
@@ -41,20 +39,20 @@ or-false false c e = (refl, e)
 -- ---- the search for a name
 
 module _ (rs : List Record) where
-  found : (x e : ℕ) → decl_named rs x ≡ At e → Named rs x e
+  found : (x e : ℕ) → decl_named rs x ≡ Some e → Named rs x e
   unfolding decl_named
   found x e h =
       let b = and-true (is_named_decl (at rs e).kind) (eqb (at rs e).name x) (first-is (holds_at rs (DeclNamed x)) 0 (length rs - 0) e h) in
       let l = first-in (holds_at rs (DeclNamed x)) (length rs) 0 e h in
       ((l.1, b.0), eqb-true (at rs e).name x b.1)
 
-  find-named : UniqueNames rs → (x e : ℕ) → Named rs x e → decl_named rs x ≡ At e
+  find-named : UniqueNames rs → (x e : ℕ) → Named rs x e → decl_named rs x ≡ Some e
   unfolding decl_named
   find-named u x e n =
       let l = n.0.0 in
       let w = first_some (holds_at rs (DeclNamed x)) 0 (length rs - 0) e (omega arith) (omega arith) (rw (n.0.1, eq-eqb (at rs e).name x n.1)) in
       let m = found x w.0 w.1 in
-      w.1 ∙ ap At (u w.0 e m.0 n.0 (m.1 ∙ sym n.1))
+      w.1 ∙ ap Some (u w.0 e m.0 n.0 (m.1 ∙ sym n.1))
 
   -- ---- the references of a declaration's fields, and the roots
 
@@ -116,43 +114,43 @@ module _ (rs : List Record) where
 
   -- the name x leads to a declaration e with P e, and r is y e; or it does not, and r is a fault
   data NameOutcome (P : ℕ → Type 0) (y : ℕ → Reference) (x : ℕ) (r : Reference) : Type 0 where
-    good : (e : ℕ) → decl_named rs x ≡ At e → P e → r ≡ y e → NameOutcome P y x r
-    bad : (c p : ℕ) → r ≡ Wrong c p → ((e : ℕ) → decl_named rs x ≡ At e → P e → ⊥) → NameOutcome P y x r
+    good : (e : ℕ) → decl_named rs x ≡ Some e → P e → r ≡ y e → NameOutcome P y x r
+    bad : (c p : ℕ) → r ≡ Wrong c p → ((e : ℕ) → decl_named rs x ≡ Some e → P e → ⊥) → NameOutcome P y x r
 
-  missing : {P : ℕ → Type 0} {y : ℕ → Reference} {x c p : ℕ} → decl_named rs x ≡ Nothing → NameOutcome P y x (Wrong c p)
+  missing : {P : ℕ → Type 0} {y : ℕ → Reference} {x c p : ℕ} → decl_named rs x ≡ None → NameOutcome P y x (Wrong c p)
   missing {c = c} {p = p} h = bad c p refl (λ e g k. nothing-at (sym h ∙ g))
 
-  same_kind : (k : ℕ) (y : ℕ → Reference) (c p x e : ℕ) → decl_named rs x ≡ At e → (b : Bool) → eqb (at rs e).kind k ≡ b
+  same_kind : (k : ℕ) (y : ℕ → Reference) (c p x e : ℕ) → decl_named rs x ≡ Some e → (b : Bool) → eqb (at rs e).kind k ≡ b
       → NameOutcome (λ e. (at rs e).kind ≡ k) y x (if b then y e else Wrong c p)
   same_kind k y c p x e h true g = good e h (eqb-true (at rs e).kind k g) refl
   same_kind k y c p x e h false g =
       bad c p refl (λ d m z. eqb-false (at rs e).kind k g (ap (λ (i : ℕ). (at rs i).kind) (at-inj (sym h ∙ m)) ∙ z))
 
-  other-kind : (k : ℕ) (y : ℕ → Reference) (c p x e : ℕ) → decl_named rs x ≡ At e → (b : Bool) → eqb (at rs e).kind k ≡ b
+  other-kind : (k : ℕ) (y : ℕ → Reference) (c p x e : ℕ) → decl_named rs x ≡ Some e → (b : Bool) → eqb (at rs e).kind k ≡ b
       → NameOutcome (λ e. ¬ ((at rs e).kind ≡ k)) y x (if b then Wrong c p else y e)
   other-kind k y c p x e h true g =
       bad c p refl (λ d m z. z (ap (λ (i : ℕ). (at rs i).kind) (at-inj (sym m ∙ h)) ∙ eqb-true (at rs e).kind k g))
   other-kind k y c p x e h false g = good e h (eqb-false (at rs e).kind k g) refl
 
-  group-outcome : (p x : ℕ) (f : Found) → decl_named rs x ≡ f → NameOutcome (λ e. (at rs e).kind ≡ kind.group) Follow x (group_reference rs p f)
+  group-outcome : (p x : ℕ) (f : Option ℕ) → decl_named rs x ≡ f → NameOutcome (λ e. (at rs e).kind ≡ kind.group) Follow x (group_reference rs p f)
   unfolding group_reference
-  group-outcome p x Nothing h = missing h
-  group-outcome p x (At e) h = same_kind kind.group Follow 4 p x e h _ refl
+  group-outcome p x None h = missing h
+  group-outcome p x (Some e) h = same_kind kind.group Follow 4 p x e h _ refl
 
-  type-outcome : (b : Bool) (p x : ℕ) (f : Found) → decl_named rs x ≡ f → NameOutcome (λ e. ¬ ((at rs e).kind ≡ kind.packet)) (λ e. if b then Follow e else Nowhere) x (type_reference b rs p f)
+  type-outcome : (b : Bool) (p x : ℕ) (f : Option ℕ) → decl_named rs x ≡ f → NameOutcome (λ e. ¬ ((at rs e).kind ≡ kind.packet)) (λ e. if b then Follow e else Nowhere) x (type_reference b rs p f)
   unfolding type_reference
-  type-outcome b p x Nothing h = missing h
-  type-outcome b p x (At e) h = other-kind kind.packet (λ e. if b then Follow e else Nowhere) 6 p x e h _ refl
+  type-outcome b p x None h = missing h
+  type-outcome b p x (Some e) h = other-kind kind.packet (λ e. if b then Follow e else Nowhere) 6 p x e h _ refl
 
-  parent-outcome : (d x : ℕ) (f : Found) → decl_named rs x ≡ f → NameOutcome (λ e. (at rs e).kind ≡ (at rs d).kind) Follow x (parent_reference rs d f)
+  parent-outcome : (d x : ℕ) (f : Option ℕ) → decl_named rs x ≡ f → NameOutcome (λ e. (at rs e).kind ≡ (at rs d).kind) Follow x (parent_reference rs d f)
   unfolding parent_reference
-  parent-outcome d x Nothing h = missing h
-  parent-outcome d x (At e) h = same_kind (at rs d).kind Follow 8 d x e h _ refl
+  parent-outcome d x None h = missing h
+  parent-outcome d x (Some e) h = same_kind (at rs d).kind Follow 8 d x e h _ refl
 
-  test-outcome : (p x : ℕ) (f : Found) → decl_named rs x ≡ f → NameOutcome (λ e. (at rs e).kind ≡ kind.packet) (λ e. Nowhere) x (test_reference rs p f)
+  test-outcome : (p x : ℕ) (f : Option ℕ) → decl_named rs x ≡ f → NameOutcome (λ e. (at rs e).kind ≡ kind.packet) (λ e. Nowhere) x (test_reference rs p f)
   unfolding test_reference
-  test-outcome p x Nothing h = missing h
-  test-outcome p x (At e) h = same_kind kind.packet (λ e. Nowhere) 10 p x e h _ refl
+  test-outcome p x None h = missing h
+  test-outcome p x (Some e) h = same_kind kind.packet (λ e. Nowhere) 10 p x e h _ refl
 
   -- ---- a field refers as a group's name does, or as a type's, or to nothing
 

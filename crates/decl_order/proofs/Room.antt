@@ -9,15 +9,13 @@ use borrow.Author.Tests.{leb-true, le-leb}
 use lib.Dec.{leb}
 use lib.ListN.{length, get_or, set, length-append}
 use lib.Seq.{get_or-set_other}
-use Rattle.std.specs.Prelude.{if◌then◌else◌}
+use Rattle.std.specs.Prelude.{if◌then◌else◌, None, Option, Some, ℕ}
 use Rattle.rules.specs.Kinds.{is_decl}
 use Rattle.rules.specs.Table.{at}
 use Rattle.rules.specs.Places.{first, holds_at, up_to, member_count}
 use Rattle.rules.specs.DeclIdentifiers.{decl_records, all_records, ordered}
 use Rattle.rules.specs.Ordering.{Declared, Accepts}
 use Rattle.rules.specs.declared.Record.{Record}
-use Rattle.rules.specs.declared.Found.{Found}
-use Rattle.rules.specs.declared.Found.TheVariants.{At, Nothing}
 use Rattle.rules.specs.declared.Target.TheVariants.{Decl}
 use Rattle.rules.specs.declared.Reference.{Reference}
 use Rattle.table.proofs.Laws.{first-in}
@@ -74,16 +72,16 @@ module _ (rs : List Record) where
   get_or-sizes p (suc j) (suc i) h = get_or-sizes (p + 1) j i (omega arith) ∙ ap size (omega arith)
 
   -- where the first declaration found stands, or the end
-  abbrev edge : Found → ℕ
-  edge (At e) = e
-  edge Nothing = length rs
+  abbrev edge : Option ℕ → ℕ
+  edge (Some e) = e
+  edge None = length rs
 
-  edge-after : (p j : ℕ) → p + 1 + j ≡ length rs → (f : Found) → first (holds_at rs Decl) (p + 1) j ≡ f → up_to (length rs) (p + 1) f + (p + 1) ≡ edge f
-  edge-after p j l (At e) h =
+  edge-after : (p j : ℕ) → p + 1 + j ≡ length rs → (f : Option ℕ) → first (holds_at rs Decl) (p + 1) j ≡ f → up_to (length rs) (p + 1) f + (p + 1) ≡ edge f
+  edge-after p j l (Some e) h =
       let k : length rs - (p + 1) ≡ j = omega arith in
       let z = (first-in (holds_at rs Decl) (length rs) (p + 1) e (rw k h)).0 in
       omega arith
-  edge-after p j l Nothing h = omega arith
+  edge-after p j l None h = omega arith
 
   count-is : (p j : ℕ) → p + 1 + j ≡ length rs → member_count rs p ≡ up_to (length rs) (p + 1) (first (holds_at rs Decl) (p + 1) j)
   unfolding member_count

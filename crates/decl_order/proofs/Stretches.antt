@@ -1,5 +1,6 @@
 -- The records of a declaration: its own comes first, no other declaration is among them, and each is as
 -- in the table. Assumes nothing.
+use Rattle.std.proofs.Common.{None, Option, Some, ℕ}
 use mathlib.Core.Path.{◌≡◌, refl, ◌∙◌, ap}
 use mathlib.Core.Bool.{false}
 use mathlib.Core.List.{List}
@@ -13,8 +14,6 @@ use Rattle.rules.specs.Table.{at, blank}
 use Rattle.rules.specs.Places.{holds_at, first_from, member_count}
 use Rattle.rules.specs.DeclIdentifiers.{decl_records}
 use Rattle.rules.specs.declared.Record.{Record}
-use Rattle.rules.specs.declared.Found.{Found}
-use Rattle.rules.specs.declared.Found.TheVariants.{At, Nothing}
 use Rattle.rules.specs.declared.Target.TheVariants.{Decl}
 use Rattle.table.proofs.Searches.{first-before, first-none}
 use Rattle.decl_order.proofs.Copies.{count-to, count-rest, decl-length}
@@ -24,13 +23,13 @@ module _ (rs : List Record) (d : ℕ) (l : d < length rs) where
   pub members-free : (i : ℕ) → d < i → i < d + (1 + member_count rs d) → is_decl (at rs i).kind ≡ false
   members-free i a b = go (first_from rs Decl (d + 1)) refl
     where
-      go : (f : Found) → first_from rs Decl (d + 1) ≡ f → is_decl (at rs i).kind ≡ false
-      go (At e) h =
+      go : (f : Option ℕ) → first_from rs Decl (d + 1) ≡ f → is_decl (at rs i).kind ≡ false
+      go (Some e) h =
           let c = count-to rs d e h in
           let y = c.0 in
           let z = c.1 in
           first-before (holds_at rs Decl) (d + 1) (length rs - (d + 1)) e i h (omega arith) (omega arith)
-      go Nothing h =
+      go None h =
           let z = count-rest rs d l h in
           first-none (holds_at rs Decl) (d + 1) (length rs - (d + 1)) i h (omega arith) (omega arith)
 

@@ -1,4 +1,5 @@
 -- What a declaration refers to, a case at a time. Assumes nothing.
+use Rattle.std.proofs.Common.{Option, ℕ}
 use Prim.Native.Nat.{ℕ}
 use mathlib.Core.Path.{◌≡◌}
 use mathlib.Core.Bool.{true, false, ◌&&◌}
@@ -10,7 +11,6 @@ use Rattle.rules.specs.Table.{at, named}
 use Rattle.rules.specs.Places.{decl_named}
 use Rattle.rules.specs.DeclIdentifiers.{parent_reference, test_reference, own_reference, root_reference}
 use Rattle.rules.specs.declared.Record.{Record}
-use Rattle.rules.specs.declared.Found.{Found}
 use Rattle.rules.specs.declared.Reference.TheVariants.{Nowhere, Follow}
 
 module _ (rs : List Record) (p : ℕ) {r : Record} (e : r ≡ at rs p) where
@@ -26,7 +26,7 @@ module _ (rs : List Record) (p : ℕ) {r : Record} (e : r ≡ at rs p) where
   unfolding root_reference
   root-nowhere d k = rw (← e, d, ne_eqb r.kind kind.test k)
 
-  module _ {f : Found} (h : f ≡ decl_named rs r.second) where
+  module _ {f : Option ℕ} (h : f ≡ decl_named rs r.second) where
     pub own-parent : is_packet_or_struct r.kind && named r.second ≡ true → parent_reference rs p f ≡ own_reference rs p
     unfolding own_reference
     own-parent k = rw (← e, h, k)

@@ -5,30 +5,30 @@ ghost use Rattle.declarations.specs.Starts.{Starts};
 ghost use Rattle.rules.specs.DeclIdentifiers.{group_reference, type_reference, field_reference};
 
 use declarations::decl_named;
-use rules::{Found, Reference, codes};
+use rules::{Reference, codes};
 
 // The Group field at `place`.
-fn group_reference(table: &[u8], place: usize, found: Found) -> Reference
+fn group_reference(table: &[u8], place: usize, found: Option<usize>) -> Reference
     ensures { result ≡ group_reference (decode table.now) place found }
 {
     match found {
-        Found::At(e) => {
+        Some(e) => {
             if table::kind(table, e) == kinds::GROUP {
                 Reference::Follow(e)
             } else {
                 Reference::Wrong(codes::INVALID_GROUP_IDENTIFIER, place)
             }
         }
-        Found::Nothing => Reference::Wrong(codes::UNDECLARED_GROUP_IDENTIFIER, place),
+        None => Reference::Wrong(codes::UNDECLARED_GROUP_IDENTIFIER, place),
     }
 }
 
 // The Typedef or typed array at `place`, which may be checked and not followed.
-fn type_reference(followed: bool, table: &[u8], place: usize, found: Found) -> Reference
+fn type_reference(followed: bool, table: &[u8], place: usize, found: Option<usize>) -> Reference
     ensures { result ≡ type_reference followed (decode table.now) place found }
 {
     match found {
-        Found::At(e) => {
+        Some(e) => {
             if table::kind(table, e) == kinds::PACKET {
                 Reference::Wrong(codes::INVALID_TYPE_IDENTIFIER, place)
             } else if followed {
@@ -37,7 +37,7 @@ fn type_reference(followed: bool, table: &[u8], place: usize, found: Found) -> R
                 Reference::Nowhere
             }
         }
-        Found::Nothing => Reference::Wrong(codes::UNDECLARED_TYPE_IDENTIFIER, place),
+        None => Reference::Wrong(codes::UNDECLARED_TYPE_IDENTIFIER, place),
     }
 }
 

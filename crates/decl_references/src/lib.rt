@@ -9,14 +9,14 @@ ghost use Rattle.declarations.specs.Starts.{Starts};
 ghost use Rattle.rules.specs.DeclIdentifiers.{parent_reference, test_reference, own_reference, root_reference};
 
 use declarations::decl_named;
-use rules::{Found, Reference, codes};
+use rules::{Reference, codes};
 
 // The parent of the declaration at `decl`.
-fn parent_reference(table: &[u8], decl: usize, found: Found) -> Reference
+fn parent_reference(table: &[u8], decl: usize, found: Option<usize>) -> Reference
     ensures { result ≡ parent_reference (decode table.now) decl found }
 {
     match found {
-        Found::At(e) => {
+        Some(e) => {
             let k = table::kind(table, decl);
             if table::kind(table, e) == k {
                 Reference::Follow(e)
@@ -24,23 +24,23 @@ fn parent_reference(table: &[u8], decl: usize, found: Found) -> Reference
                 Reference::Wrong(codes::INVALID_PARENT_IDENTIFIER, decl)
             }
         }
-        Found::Nothing => Reference::Wrong(codes::UNDECLARED_PARENT_IDENTIFIER, decl),
+        None => Reference::Wrong(codes::UNDECLARED_PARENT_IDENTIFIER, decl),
     }
 }
 
 // The packet of the test at `place`.
-fn test_reference(table: &[u8], place: usize, found: Found) -> Reference
+fn test_reference(table: &[u8], place: usize, found: Option<usize>) -> Reference
     ensures { result ≡ test_reference (decode table.now) place found }
 {
     match found {
-        Found::At(e) => {
+        Some(e) => {
             if table::kind(table, e) == kinds::PACKET {
                 Reference::Nowhere
             } else {
                 Reference::Wrong(codes::INVALID_TEST_IDENTIFIER, place)
             }
         }
-        Found::Nothing => Reference::Wrong(codes::UNDECLARED_TEST_IDENTIFIER, place),
+        None => Reference::Wrong(codes::UNDECLARED_TEST_IDENTIFIER, place),
     }
 }
 

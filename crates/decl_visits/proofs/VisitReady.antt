@@ -9,7 +9,7 @@ use borrow.Author.Tests.{ne_eqb}
 use lib.Dec.{eqb}
 use lib.ListN.{length, get_or, set, length-append, length-set, length-map}
 use lib.Seq.{sets}
-use Rattle.std.specs.Prelude.{if◌then◌else◌}
+use Rattle.std.specs.Prelude.{if◌then◌else◌, None, Option, Some, ℕ}
 use Rattle.rules.specs.Kinds as kind
 use Rattle.rules.specs.Kinds.{is, is_named_decl, is_packet_or_struct}
 use Rattle.rules.specs.Table.{at, bit1, named}
@@ -18,8 +18,6 @@ use Rattle.rules.specs.Faults.{single, log}
 use Rattle.rules.specs.Visits.{State, mark_of, opened, faulted, listed, resolve, walk, enter, visit}
 use Rattle.rules.specs.DeclIdentifiers.{group_reference, type_reference, parent_reference, test_reference, field_reference, own_reference, root_reference, field_references, references, fault_of}
 use Rattle.rules.specs.declared.Record.{Record}
-use Rattle.rules.specs.declared.Found.{Found}
-use Rattle.rules.specs.declared.Found.TheVariants.{At, Nothing}
 use Rattle.rules.specs.declared.Tally.{Tally}
 use Rattle.rules.specs.declared.Target.TheVariants.{DeclNamed}
 use Rattle.rules.specs.declared.Reference.{Reference}
@@ -180,33 +178,33 @@ guard n true x y h k = h
 guard n false x y h k = k
 
 module _ (rs : List Record) where
-  abbrev FoundIn : Found → Type 0
-  FoundIn f = (e : ℕ) → f ≡ At e → e < length rs
+  abbrev FoundIn : Option ℕ → Type 0
+  FoundIn f = (e : ℕ) → f ≡ Some e → e < length rs
 
   named_in : (x : ℕ) → FoundIn (decl_named rs x)
   unfolding decl_named
   named_in x e h = (first-in (holds_at rs (DeclNamed x)) (length rs) 0 e h).1
 
-  within-group : (p : ℕ) (f : Found) → FoundIn f → Within (length rs) (group_reference rs p f)
+  within-group : (p : ℕ) (f : Option ℕ) → FoundIn f → Within (length rs) (group_reference rs p f)
   unfolding group_reference
-  within-group p Nothing h = tt
-  within-group p (At e) h = guard (length rs) (is kind.group (at rs e)) (Follow e) (Wrong 4 p) (h e refl) tt
+  within-group p None h = tt
+  within-group p (Some e) h = guard (length rs) (is kind.group (at rs e)) (Follow e) (Wrong 4 p) (h e refl) tt
 
-  within-type : (b : Bool) (p : ℕ) (f : Found) → FoundIn f → Within (length rs) (type_reference b rs p f)
+  within-type : (b : Bool) (p : ℕ) (f : Option ℕ) → FoundIn f → Within (length rs) (type_reference b rs p f)
   unfolding type_reference
-  within-type b p Nothing h = tt
-  within-type b p (At e) h =
+  within-type b p None h = tt
+  within-type b p (Some e) h =
       guard (length rs) (is kind.packet (at rs e)) (Wrong 6 p) (if b then Follow e else Nowhere) tt (guard (length rs) b (Follow e) Nowhere (h e refl) tt)
 
-  within-parent : (p : ℕ) (f : Found) → FoundIn f → Within (length rs) (parent_reference rs p f)
+  within-parent : (p : ℕ) (f : Option ℕ) → FoundIn f → Within (length rs) (parent_reference rs p f)
   unfolding parent_reference
-  within-parent p Nothing h = tt
-  within-parent p (At e) h = guard (length rs) (eqb (at rs e).kind (at rs p).kind) (Follow e) (Wrong 8 p) (h e refl) tt
+  within-parent p None h = tt
+  within-parent p (Some e) h = guard (length rs) (eqb (at rs e).kind (at rs p).kind) (Follow e) (Wrong 8 p) (h e refl) tt
 
-  within-test : (p : ℕ) (f : Found) → Within (length rs) (test_reference rs p f)
+  within-test : (p : ℕ) (f : Option ℕ) → Within (length rs) (test_reference rs p f)
   unfolding test_reference
-  within-test p Nothing = tt
-  within-test p (At e) = guard (length rs) (is kind.packet (at rs e)) Nowhere (Wrong 10 p) tt tt
+  within-test p None = tt
+  within-test p (Some e) = guard (length rs) (is kind.packet (at rs e)) Nowhere (Wrong 10 p) tt tt
 
   within-field : (p : ℕ) → Within (length rs) (field_reference rs p)
   unfolding field_reference

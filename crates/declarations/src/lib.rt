@@ -9,7 +9,7 @@ ghost use Rattle.rules.specs.Places.{nearest, holds_at, decl_named};
 ghost use Rattle.rules.specs.declared.Target.TheVariants.{DeclNamed};
 ghost use Rattle.declarations.specs.Starts.{Starts};
 
-use rules::{Found, Target};
+use rules::Target;
 use table::DIVISOR;
 
 // The start for a name: place 0 where the array has none.
@@ -24,7 +24,7 @@ fn start(starts: &[u16], name: u16) -> usize
 }
 
 // The declaration of a name.
-pub fn decl_named(table: &[u8], starts: &[u16], name: u16) -> Found
+pub fn decl_named(table: &[u8], starts: &[u16], name: u16) -> Option<usize>
     requires { Starts (decode table.now) starts.now }
     ensures { result ≡ decl_named (decode table.now) name }
 {
@@ -32,13 +32,13 @@ pub fn decl_named(table: &[u8], starts: &[u16], name: u16) -> Found
 }
 
 // The nearest declaration before `place` that has the name of the record at `place`.
-pub fn earlier(table: &[u8], starts: &[u16], place: usize) -> Found
+pub fn earlier(table: &[u8], starts: &[u16], place: usize) -> Option<usize>
     requires { Starts (decode table.now) starts.now }
     ensures { result ≡ nearest (holds_at (decode table.now) (DeclNamed (at (decode table.now) place).name)) place }
 {
     let name = table::name(table, place);
     if (start(starts, name) == place) & (place < table::count(table)) {
-        return Found::Nothing;
+        return None;
     }
     search::nearest(table, Target::DeclNamed(name), place)
 }

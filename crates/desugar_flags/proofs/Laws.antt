@@ -1,4 +1,5 @@
 -- Laws of the replies. Assumes nothing.
+use Rattle.std.proofs.Common.{None, Option, Some, ℕ}
 use Prim.Native.Nat.{ℕ, ◌-◌, ◌*◌, ◌%◌, ◌<◌, ◌≤◌}
 use mathlib.Core.Path.{◌≡◌, ap, ◌∙◌}
 use mathlib.Core.List.{List}
@@ -14,8 +15,6 @@ use Rattle.rules.specs.Places.{first}
 use Rattle.rules.specs.DesugarFlags.{loose_at, first_loose, desugared}
 use Rattle.rules.specs.Replies.{answered, fitted, by_loose, flagged}
 use Rattle.rules.specs.declared.Record.{Record}
-use Rattle.rules.specs.declared.Found.{Found}
-use Rattle.rules.specs.declared.Found.TheVariants.{At, Nothing}
 use Rattle.rules.specs.declared.Reply.TheVariants.{Loose, Overlisted, NoRoom, Accepted}
 use Rattle.flag_table.specs.RecordsAppended.{RoomForRecords}
 
@@ -46,15 +45,15 @@ module _ (dr : List Record) (t : List ℕ) {n : ℕ} (e : n ≡ length dr) where
     pub room-all : 40 * n ≤ length t → RoomForRecords t 0 dr
     room-all g = record { few = omega arith; fits = omega arith }
 
-pub loose-is : (rs : List Record) (n : ℕ) {f : Found} → n ≡ length rs → f ≡ first (loose_at rs) 0 (n - 0) → f ≡ first_loose rs
+pub loose-is : (rs : List Record) (n : ℕ) {f : Option ℕ} → n ≡ length rs → f ≡ first (loose_at rs) 0 (n - 0) → f ≡ first_loose rs
 unfolding first_loose
 loose-is rs n e h = h ∙ ap (first (loose_at rs) 0) (omega arith)
 
-module _ (rs : List Record) (t : List ℕ) {found : Found} (e : found ≡ first_loose rs) where
-  pub reply-loose : {q : ℕ} {r : Record} → found ≡ At q → r ≡ at rs (q - 1) → (f : List ℕ) → answered (Loose (field_key r)) t f ≡ flagged rs t f
+module _ (rs : List Record) (t : List ℕ) {found : Option ℕ} (e : found ≡ first_loose rs) where
+  pub reply-loose : {q : ℕ} {r : Record} → found ≡ Some q → r ≡ at rs (q - 1) → (f : List ℕ) → answered (Loose (field_key r)) t f ≡ flagged rs t f
   unfolding by_loose
   reply-loose h g f = rw (← e, h, by_loose, g)
 
-  pub reply-fitted : found ≡ Nothing → (f : List ℕ) → fitted (desugared rs) t f ≡ flagged rs t f
+  pub reply-fitted : found ≡ None → (f : List ℕ) → fitted (desugared rs) t f ≡ flagged rs t f
   unfolding by_loose
   reply-fitted h f = rw (← e, h, by_loose)

@@ -8,7 +8,7 @@ ghost use Rattle.rules.specs.Replies.{answered, fitted, flagged};
 ghost use Rattle.flag_sizes.specs.Counts.{Counted};
 
 use rules::limits::{MOST_RECORDS, RECORD_LENGTH};
-use rules::{FieldKey, Found, Reply};
+use rules::{FieldKey, Reply};
 use table::REMAINDERS;
 
 // Whether a condition without a named field or without a value stands at `place`.
@@ -26,7 +26,7 @@ fn loose_at(table: &[u8], place: usize) -> bool
 }
 
 // The first such condition.
-fn find_loose(table: &[u8]) -> Found
+fn find_loose(table: &[u8]) -> Option<usize>
     ensures { result ≡ first_loose (decode table.now) }
 {
     let end = table::count(table);
@@ -34,11 +34,11 @@ fn find_loose(table: &[u8]) -> Found
     while p < end {
         let q = p;
         if loose_at(table, q) {
-            return Found::At(q);
+            return Some(q);
         }
         p = q + 1;
     }
-    Found::Nothing
+    None
 }
 
 // The table with flags, which has `count` records, if it is not too long for the reply or for the buffer.
@@ -63,11 +63,11 @@ pub fn desugar_flags(table: &[u8], out: &mut [u8]) -> Reply
     ensures { (f : List ℕ) → answered result out.new f ≡ flagged (decode table.now) out.old f }
 {
     match find_loose(table) {
-        Found::At(q) => {
+        Some(q) => {
             let field = records::at(table, flag_sizes::conditions::place_before(q));
             Reply::Loose(FieldKey(field.key))
         }
-        Found::Nothing => {
+        None => {
             let mut marks = [0u16; REMAINDERS];
             let mut counts = [0u16; MOST_RECORDS];
             let n = flag_sizes::total(table, &mut marks, &mut counts);

@@ -1,4 +1,5 @@
 -- Laws of pass 4: how many faults there can be, and what a turn of each loop adds. Assumes nothing.
+use Rattle.std.proofs.Common.{None, Option, Some, ℕ}
 use Prim.Native.Nat.{ℕ, ◌+◌, ◌-◌, ◌*◌, ◌<◌, ◌≤◌}
 use mathlib.Core.Path.{◌≡◌, refl, ◌∙◌}
 use mathlib.Core.List.{List, []}
@@ -12,8 +13,6 @@ use Rattle.rules.specs.Places.{first, each, holds_at, up_to, member_count}
 use Rattle.rules.specs.Sorts.{sorted}
 use Rattle.rules.specs.EnumDeclarations.{tag_faults, tags_faults, range_at, ranges, before_at, overlap, overlaps, enum_faults, pass4_at}
 use Rattle.rules.specs.declared.Record.{Record}
-use Rattle.rules.specs.declared.Found.{Found}
-use Rattle.rules.specs.declared.Found.TheVariants.{At, Nothing}
 use Rattle.rules.specs.declared.Target.TheVariants.{Decl}
 use Rattle.table.proofs.Laws.{each_more, each-few, first-in, if-few, when-few}
 use Rattle.enum_ranges.proofs.Sorts.{length-sorted}
@@ -45,9 +44,9 @@ count-few : (rs : List Record) (d : ℕ) → member_count rs d ≤ length rs
 unfolding member_count
 count-few rs d = go (first (holds_at rs Decl) (d + 1) (length rs - (d + 1))) (first-in (holds_at rs Decl) (length rs) (d + 1))
   where
-    go : (x : Found) → ((e : ℕ) → x ≡ At e → (d + 1 ≤ e) × (e < length rs)) → up_to (length rs) (d + 1) x ≤ length rs
-    go (At e) h = let z = h e refl in omega arith
-    go Nothing h = omega arith
+    go : (x : Option ℕ) → ((e : ℕ) → x ≡ Some e → (d + 1 ≤ e) × (e < length rs)) → up_to (length rs) (d + 1) x ≤ length rs
+    go (Some e) h = let z = h e refl in omega arith
+    go None h = omega arith
 
 pub place-few : (rs : List Record) → length rs ≤ 1600 → (d : ℕ) → length (pass4_at rs d) ≤ 3000000
 unfolding pass4_at

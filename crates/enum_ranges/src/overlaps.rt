@@ -1,17 +1,18 @@
 // Overlaps: neighbours among the sorted ranges of an enum that share a value.
 ghost use Rattle.std.specs.Prelude.{◌≡◌, ◌+◌, ◌^◌, ◌<◌, ◌≤◌, length, take};
+ghost use Rattle.std.specs.Option.{option_to_list};
 ghost use Rattle.rules.specs.Table.{decode};
 ghost use Rattle.rules.specs.Faults.{log};
 ghost use Rattle.rules.specs.EnumDeclarations.{overlap, overlaps};
-ghost use Rattle.faults.specs.Notes.{findings, noted_all};
+ghost use Rattle.faults.specs.Notes.{noted_all};
 
 use enum_bounds::range::{greater, lesser};
-use faults::{Finding, when};
-use rules::{Tally, codes};
+use faults::when;
+use rules::{Fault, Tally, codes};
 
 // 41 at `right` where the ranges at `left` and `right` share a value.
-fn overlap(table: &[u8], left: usize, right: usize) -> Finding
-    ensures { findings result ≡ overlap (decode table.now) left right }
+fn overlap(table: &[u8], left: usize, right: usize) -> Option<Fault>
+    ensures { option_to_list result ≡ overlap (decode table.now) left right }
 {
     let r = records::at(table, left);
     let s = records::at(table, right);

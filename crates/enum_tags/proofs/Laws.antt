@@ -1,4 +1,5 @@
 -- Laws of one tag: how many faults it can have, and the range that the next one belongs to. Assumes nothing.
+use Rattle.std.proofs.Common.{None, Option, Some, ℕ}
 use Prim.Native.Nat.{ℕ, ◌+◌, ◌≤◌}
 use mathlib.Core.Path.{◌≡◌}
 use mathlib.Core.List.{List, ◌++◌}
@@ -16,17 +17,15 @@ use Rattle.rules.specs.Widths.{scalar_max}
 use Rattle.rules.specs.Faults.{single, repeated}
 use Rattle.rules.specs.EnumDeclarations.{outside, again, value_faults, held_at, held, range_faults, default_faults, inner_faults, tag_faults}
 use Rattle.rules.specs.declared.Record.{Record}
-use Rattle.rules.specs.declared.Found.{Found}
-use Rattle.rules.specs.declared.Found.TheVariants.{At, Nothing}
 use Rattle.rules.specs.declared.Target.{Target}
 use Rattle.rules.specs.declared.Target.TheVariants.{TagOrDecl, ValueOrDecl, DefaultOrDecl}
 use Rattle.table.proofs.Laws.{each-few, if-few, when-few}
 use Rattle.enum_tags.specs.Before.{range_before}
 
-repeated-few : (code : ℕ) (rs : List Record) (p : ℕ) (x : Found) → length (repeated code rs p x) ≤ 1
+repeated-few : (code : ℕ) (rs : List Record) (p : ℕ) (x : Option ℕ) → length (repeated code rs p x) ≤ 1
 unfolding repeated
-repeated-few code rs p Nothing = omega arith
-repeated-few code rs p (At q) = if-few (is_decl (at rs q).kind) _ _ 1 (omega arith) (omega arith)
+repeated-few code rs p None = omega arith
+repeated-few code rs p (Some q) = if-few (is_decl (at rs q).kind) _ _ 1 (omega arith) (omega arith)
 
 again-few : (code : ℕ) (rs : List Record) (x : Target) (p : ℕ) → length (again code rs x p) ≤ 1
 unfolding again

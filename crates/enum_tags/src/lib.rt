@@ -2,11 +2,12 @@
 #![tactic(auto)]
 
 ghost use Rattle.std.specs.Prelude.{◌≡◌, [], ◌∷◌, ◌++◌, ◌+◌, ◌^◌, ◌<◌, ◌≤◌};
+ghost use Rattle.std.specs.Option.{option_to_list};
 ghost use Rattle.rules.specs.Table.{decode};
 ghost use Rattle.rules.specs.Places.{each};
 ghost use Rattle.rules.specs.Faults.{log};
 ghost use Rattle.rules.specs.EnumDeclarations.{range_found, value_faults, held, range_faults, default_faults, inner_faults, tag_faults};
-ghost use Rattle.faults.specs.Notes.{findings, noted_all};
+ghost use Rattle.faults.specs.Notes.{noted_all};
 ghost use Rattle.repeats.specs.Marks.{Marked};
 ghost use Rattle.repeats.specs.declared.marks.Compared.TheVariants.{TagNames};
 ghost use Rattle.enum_bounds.specs.Bounds.{Bounds};
@@ -15,18 +16,18 @@ ghost use Rattle.enum_tags.specs.Tags.{TagsMarked, CheckingTag};
 
 use enum_bounds::holders;
 use enum_bounds::range::{greater, lesser};
-use faults::{Finding, when};
+use faults::when;
 use repeats::marks::Compared;
 use repeats::{again, again_marked};
-use rules::{Fault, Found, Record, Tally, Target, codes};
+use rules::{Fault, Record, Tally, Target, codes};
 
 // The range that a search found.
-fn range_found(table: &[u8], found: Found) -> Record
+fn range_found(table: &[u8], found: Option<usize>) -> Record
     ensures { result ≡ range_found (decode table.now) found }
 {
     match found {
-        Found::At(q) => records::at(table, q),
-        Found::Nothing => Record {
+        Some(q) => records::at(table, q),
+        None => Record {
             kind: 0,
             marks: 0,
             name: 0,
@@ -45,12 +46,12 @@ fn range_found(table: &[u8], found: Found) -> Record
 fn note_three(
     tally: Tally,
     buffer: &mut [u8],
-    first: Finding,
-    second: Finding,
-    third: Finding,
+    first: Option<Fault>,
+    second: Option<Fault>,
+    third: Option<Fault>,
 ) -> Tally
     requires { tally.total + 4 < 2 ^ 64 }
-    ensures { log result buffer.new ≡ noted_all (log tally buffer.old) (findings first ++ findings second ++ findings third) }
+    ensures { log result buffer.new ≡ noted_all (log tally buffer.old) (option_to_list first ++ option_to_list second ++ option_to_list third) }
 {
     let a = faults::notes::note_found(tally, buffer, first);
     let b = faults::notes::note_found(a, buffer, second);
@@ -102,7 +103,7 @@ fn note_times(fault: Fault, times: usize, tally: Tally, buffer: &mut [u8]) -> Ta
     let mut kept = tally;
     let mut j = 0;
     while j < times {
-        kept = faults::notes::note_found(kept, buffer, Finding::One(fault));
+        kept = faults::notes::note_found(kept, buffer, Some(fault));
         j += 1;
     }
     kept
@@ -175,7 +176,7 @@ fn note_default(table: &[u8], names: &[u8], place: usize, tally: Tally, buffer: 
         Target::DefaultOrDecl,
         place,
     );
-    note_three(tally, buffer, x, y, Finding::None)
+    note_three(tally, buffer, x, y, None)
 }
 
 // A value in a range, against the range: no 43. No range stands from `after` up to `place`.

@@ -4,7 +4,8 @@ use lib.ListN.{length, take, drop, length-append, length-take, length-drop}
 use lib.Seq.{take_all, take-append-le, take_at, drop-append-add, drop-drop}
 use native.Mathlib.Omega.{arith}
 use native.Mathlib.Decide.{dec_lt}
-use Rattle.std.specs.Prelude.{if◌then◌else◌}
+use Rattle.std.specs.Prelude.{if◌then◌else◌, None, Option, Some}
+use Rattle.std.specs.Option.{option_to_list}
 use Rattle.rules.specs.Bytes.{bytes}
 use lib.Dec.{ltb}
 use native.Mathlib.Nat.{not-suc-le-zero, le_antisymm, le_of_eq, zero-add, min-eq_left, min-eq_right}
@@ -16,10 +17,8 @@ use Rattle.rules.specs.Places.{each}
 use Rattle.rules.specs.Bytes.{written}
 use Rattle.rules.specs.Faults.{fault_bytes, faults_bytes, logged, Log, log}
 use Rattle.store.proofs.Laws.{length-written}
-use Rattle.faults.specs.Notes.{findings, no_faults, noted, noted_all}
+use Rattle.faults.specs.Notes.{no_faults, noted, noted_all}
 use Rattle.rules.specs.declared.Tally.{Tally}
-use Rattle.faults.specs.declared.Finding.{Finding}
-use Rattle.faults.specs.declared.Finding.TheVariants.{One, None}
 use Rattle.rules.specs.declared.Fault.{Fault}
 use Rattle.table.proofs.Laws.{each_more, each-few}
 
@@ -58,9 +57,9 @@ total_of true x y n h g = h
 total_of false x y n h g = g
 
 -- a place adds at most one to the total
-pub noted-total : (l : Log) (x : Finding) → (noted_all l (findings x)).tally.total ≤ l.tally.total + 1
+pub noted-total : (l : Log) (x : Option Fault) → (noted_all l (option_to_list x)).tally.total ≤ l.tally.total + 1
 unfolding noted_all noted
-noted-total l (One f) = le_of_eq (total_of (ltb l.tally.kept (length l.buffer / 20)) _ _ (l.tally.total + 1) refl refl)
+noted-total l (Some f) = le_of_eq (total_of (ltb l.tally.kept (length l.buffer / 20)) _ _ (l.tally.total + 1) refl refl)
 noted-total l None = omega arith
 
 length-fault : (f : Fault) → length (fault_bytes f) ≡ 20
@@ -151,8 +150,8 @@ noted-count l (f ∷ fs) = noted-count (noted l f) fs ∙ omega (arith, noted-ad
 pub total-after : (t : Tally) (b : List ℕ) {r : Tally} {c : List ℕ} (fs : List Fault) → log r c ≡ noted_all (log t b) fs → r.total ≡ t.total + length fs
 total-after t b fs e = ap (λ (l : Log). l.tally.total) e ∙ noted-count _ fs
 
-pub findings-few : (x : Finding) → length (findings x) ≤ 1
-findings-few (One f) = omega arith
+pub findings-few : (x : Option Fault) → length (option_to_list x) ≤ 1
+findings-few (Some f) = omega arith
 findings-few None = omega arith
 
 -- at most k faults at each place

@@ -1,12 +1,10 @@
 -- The fault buffer fault by fault. `logged` of the rules is the closed form, which `noted-logged` (proofs/Laws.antt) shows equal.
-use Rattle.std.specs.Prelude.{ℕ, ◌+◌, ◌*◌, ltb, if◌then◌else◌}
+use Rattle.std.specs.Prelude.{ℕ, ◌+◌, ◌*◌, ltb, if◌then◌else◌, None, Option, Some}
 use mathlib.Core.List.{List, [], ◌∷◌, foldl}
 use Rattle.rules.specs.Bytes.{written}
 use Rattle.rules.specs.Faults.{fault_length, fault_room, fault_bytes, Log, log}
 use Rattle.rules.specs.declared.Fault.{Fault}
 use Rattle.rules.specs.declared.Tally.{Tally}
-use Rattle.faults.specs.declared.Finding.{Finding}
-use Rattle.faults.specs.declared.Finding.TheVariants.{One, None}
 
 -- no fault yet
 abbrev pub no_faults : Tally
@@ -27,8 +25,3 @@ noted l f =
 
 unfoldable pub noted_all : Log → List Fault → Log
 noted_all l fs = foldl noted l fs
-
--- what is found at a place, as a list
-abbrev pub findings : Finding → List Fault
-findings (One f) = f ∷ []
-findings None = []

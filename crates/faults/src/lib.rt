@@ -5,28 +5,22 @@ pub mod fault;
 pub mod notes;
 
 ghost use Rattle.std.specs.Prelude.{◌≡◌, ◌+◌, ◌^◌, ◌<◌};
+ghost use Rattle.std.specs.Option.{option_to_list};
 ghost use Rattle.rules.specs.Choice.{when};
 ghost use Rattle.rules.specs.Faults.{log};
-ghost use Rattle.faults.specs.Notes.{findings, no_faults, tallied, noted};
+ghost use Rattle.faults.specs.Notes.{no_faults, tallied, noted};
 
 use rules::limits::FAULT_LENGTH;
 use rules::{Fault, Tally};
 
-// What is found at a place: at most one fault.
-#[derive(Clone, Copy)]
-pub enum Finding {
-    One(Fault),
-    None,
-}
-
 // A fault where a test holds.
-pub fn when(test: bool, fault: Fault) -> Finding
-    ensures { findings result ≡ when test fault }
+pub fn when(test: bool, fault: Fault) -> Option<Fault>
+    ensures { option_to_list result ≡ when test fault }
 {
     if test {
-        return Finding::One(fault);
+        return Some(fault);
     }
-    Finding::None
+    None
 }
 
 // No fault yet.

@@ -2,23 +2,23 @@
 #![tactic(auto)]
 
 ghost use Rattle.std.specs.Prelude.{◌≡◌, ◌+◌, ◌^◌, ◌<◌, ◌≤◌};
+ghost use Rattle.std.specs.Option.{option_to_list};
 ghost use Rattle.rules.specs.Table.{decode};
 ghost use Rattle.rules.specs.Faults.{log, logged};
 ghost use Rattle.rules.specs.FieldIdentifiers.{pass3_at, pass3};
-ghost use Rattle.faults.specs.Notes.{findings, noted_all};
+ghost use Rattle.faults.specs.Notes.{noted_all};
 ghost use Rattle.repeats.specs.Marks.{Marked};
 ghost use Rattle.repeats.specs.declared.marks.Compared.TheVariants.{FieldNames};
 
-use faults::Finding;
 use repeats::marks::Compared;
-use rules::{Tally, codes};
+use rules::{Fault, Tally, codes};
 
-pub fn at_place(table: &[u8], names: &[u8], place: usize) -> Finding
+pub fn at_place(table: &[u8], names: &[u8], place: usize) -> Option<Fault>
     requires { Marked (decode table.now) FieldNames names.now }
-    ensures { findings result ≡ pass3_at (decode table.now) place }
+    ensures { option_to_list result ≡ pass3_at (decode table.now) place }
 {
     if !kinds::is_named_field(table::kind(table, place)) {
-        return Finding::None;
+        return None;
     }
     repeats::again_marked(
         codes::DUPLICATE_FIELD_IDENTIFIER,

@@ -2,38 +2,38 @@
 #![tactic(auto)]
 
 ghost use Rattle.std.specs.Prelude.{◌≡◌};
+ghost use Rattle.std.specs.Option.{option_to_list};
 ghost use Rattle.rules.specs.Table.{decode};
 ghost use Rattle.rules.specs.FixedFields.{enum_fault, pass6_at};
-ghost use Rattle.faults.specs.Notes.{findings};
 ghost use Rattle.declarations.specs.Starts.{Starts};
 
-use faults::{Finding, when};
-use rules::{Found, Target, codes};
+use faults::when;
+use rules::{Fault, Target, codes};
 use search::members::has_member;
 
 // 33, 34, 35 for a missing enum, a missing tag, no enum.
-fn enum_fault(table: &[u8], place: usize, found: Found) -> Finding
-    ensures { findings result ≡ enum_fault (decode table.now) place found }
+fn enum_fault(table: &[u8], place: usize, found: Option<usize>) -> Option<Fault>
+    ensures { option_to_list result ≡ enum_fault (decode table.now) place found }
 {
     let r = records::at(table, place);
     match found {
-        Found::At(d) => {
+        Some(d) => {
             let e = records::at(table, d);
             if e.kind != kinds::ENUM {
-                return Finding::One(faults::fault::double(codes::E35, r, e));
+                return Some(faults::fault::double(codes::E35, r, e));
             }
             if has_member(table, Target::OuterTagOrDecl(r.third), d) {
-                return Finding::None;
+                return None;
             }
-            Finding::One(faults::fault::double(codes::E34, r, e))
+            Some(faults::fault::double(codes::E34, r, e))
         }
-        Found::Nothing => Finding::One(faults::fault::single(codes::E33, r)),
+        None => Some(faults::fault::single(codes::E33, r)),
     }
 }
 
-pub fn at_place(table: &[u8], starts: &[u16], place: usize) -> Finding
+pub fn at_place(table: &[u8], starts: &[u16], place: usize) -> Option<Fault>
     requires { Starts (decode table.now) starts.now }
-    ensures { findings result ≡ pass6_at (decode table.now) place }
+    ensures { option_to_list result ≡ pass6_at (decode table.now) place }
 {
     let r = records::at(table, place);
     let k = r.kind;
@@ -50,5 +50,5 @@ pub fn at_place(table: &[u8], starts: &[u16], place: usize) -> Finding
             declarations::decl_named(table, starts, r.second),
         );
     }
-    Finding::None
+    None
 }

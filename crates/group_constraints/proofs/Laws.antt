@@ -1,4 +1,5 @@
 -- Constraints a step at a time: the stack, and what the constraint that holds makes of a record. Assumes nothing.
+use Rattle.std.proofs.Common.{None, Option, Some, ℕ}
 use Prim.Native.Nat.{ℕ, ◌+◌, ◌-◌, ◌<◌, ◌≤◌}
 use mathlib.Core.Path.{◌≡◌, refl, sym, ap, ◌∙◌}
 use mathlib.Core.List.{List, [], ◌∷◌, ◌++◌, append_assoc, append-nil}
@@ -10,8 +11,6 @@ use lib.Seq.{take-suc-set}
 use Rattle.rules.specs.Table.{at}
 use Rattle.rules.specs.InlineGroups.{kept, fixed_scalar, fixed_enum, lookup, under, inlined_record, constraints}
 use Rattle.rules.specs.declared.Record.{Record}
-use Rattle.rules.specs.declared.Found.{Found}
-use Rattle.rules.specs.declared.Found.TheVariants.{At, Nothing}
 use Rattle.table.proofs.Laws.{left-suc, left-none}
 use Rattle.group_constraints.specs.Constraints.{constraints_from}
 
@@ -78,20 +77,20 @@ module _ {rs : List Record} {env₀ : List ℕ} {n p : ℕ} {env : List ℕ} {m 
 -- ---- what the constraint that was found makes of a record
 
 module _ (rs : List Record) (env : List ℕ) (r : Record) where
-  module _ {f : Found} (e : f ≡ lookup rs env r.name) where
-    pub scalar-fixed : {q : ℕ} → r.kind ≡ 31 → f ≡ At q → fixed_scalar r (at rs q) ≡ inlined_record rs env r
+  module _ {f : Option ℕ} (e : f ≡ lookup rs env r.name) where
+    pub scalar-fixed : {q : ℕ} → r.kind ≡ 31 → f ≡ Some q → fixed_scalar r (at rs q) ≡ inlined_record rs env r
     unfolding inlined_record under
     scalar-fixed k g = rw (eq-eqb _ _ k, ← e, g)
 
-    pub scalar-free : r.kind ≡ 31 → f ≡ Nothing → kept r ≡ inlined_record rs env r
+    pub scalar-free : r.kind ≡ 31 → f ≡ None → kept r ≡ inlined_record rs env r
     unfolding inlined_record under
     scalar-free k g = rw (eq-eqb _ _ k, ← e, g)
 
-    pub enum_fixed : {q : ℕ} → ¬ (r.kind ≡ 31) → r.kind ≡ 33 → f ≡ At q → fixed_enum r (at rs q) ≡ inlined_record rs env r
+    pub enum_fixed : {q : ℕ} → ¬ (r.kind ≡ 31) → r.kind ≡ 33 → f ≡ Some q → fixed_enum r (at rs q) ≡ inlined_record rs env r
     unfolding inlined_record under
     enum_fixed j k g = rw (ne_eqb _ _ j, eq-eqb _ _ k, ← e, g)
 
-    pub enum-free : ¬ (r.kind ≡ 31) → r.kind ≡ 33 → f ≡ Nothing → kept r ≡ inlined_record rs env r
+    pub enum-free : ¬ (r.kind ≡ 31) → r.kind ≡ 33 → f ≡ None → kept r ≡ inlined_record rs env r
     unfolding inlined_record under
     enum-free j k g = rw (ne_eqb _ _ j, eq-eqb _ _ k, ← e, g)
 

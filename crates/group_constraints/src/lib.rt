@@ -6,10 +6,10 @@ ghost use Rattle.rules.specs.Table.{decode};
 ghost use Rattle.rules.specs.InlineGroups.{lookup, fixed_scalar, fixed_enum, inlined_record};
 ghost use Rattle.group_constraints.specs.Constraints.{constraints_from};
 
-use rules::{Found, Inlined, Record};
+use rules::{Inlined, Record};
 
 // The constraint of `name` that holds: of one name the innermost, then the last.
-fn lookup(table: &[u8], env: &[u16], name: u16) -> Found
+fn lookup(table: &[u8], env: &[u16], name: u16) -> Option<usize>
     ensures { result ≡ lookup (decode table.now) env.now name }
 {
     let n = env.len();
@@ -17,11 +17,11 @@ fn lookup(table: &[u8], env: &[u16], name: u16) -> Found
     while 0 < i {
         let q = env[i - 1] as usize;
         if table::name(table, q) == name {
-            return Found::At(q);
+            return Some(q);
         }
         i -= 1;
     }
-    Found::Nothing
+    None
 }
 
 // A Scalar that `constraint` fixes; it needs a value.
@@ -72,13 +72,13 @@ pub fn inlined_record(table: &[u8], env: &[u16], r: Record) -> Inlined
 {
     if r.kind == kinds::SCALAR {
         match lookup(table, env, r.name) {
-            Found::At(q) => fixed_scalar(r, records::at(table, q)),
-            Found::Nothing => Inlined { made: r, fit: true },
+            Some(q) => fixed_scalar(r, records::at(table, q)),
+            None => Inlined { made: r, fit: true },
         }
     } else if r.kind == kinds::TYPEDEF {
         match lookup(table, env, r.name) {
-            Found::At(q) => fixed_enum(r, records::at(table, q)),
-            Found::Nothing => Inlined { made: r, fit: true },
+            Some(q) => fixed_enum(r, records::at(table, q)),
+            None => Inlined { made: r, fit: true },
         }
     } else {
         Inlined { made: r, fit: true }

@@ -1,5 +1,6 @@
 -- The records behind a declaration, one at a time: whose they are, whether they belong to a group field, and how many they become.
 -- Assumes nothing.
+use Rattle.std.proofs.Common.{Option, Some, ℕ}
 use Prim.Native.Nat.{ℕ, ◌+◌, ◌<◌, ◌≤◌}
 use mathlib.Core.Path.{◌≡◌, sym, ◌∙◌}
 use mathlib.Core.List.{List}
@@ -15,8 +16,6 @@ use Rattle.rules.specs.Places.{nearest, holds_at}
 use Rattle.rules.specs.Kinds.{is_decl}
 use Rattle.rules.specs.InlineGroups.{is_constraint_or_condition, after_group}
 use Rattle.rules.specs.declared.Record.{Record}
-use Rattle.rules.specs.declared.Found.{Found}
-use Rattle.rules.specs.declared.Found.TheVariants.{At}
 use Rattle.rules.specs.declared.Target.TheVariants.{Decl}
 use Rattle.table.proofs.Searches.{and-true}
 use Rattle.table.proofs.Laws.{left-suc, left-none}
@@ -28,11 +27,11 @@ decl-below k e = leb-true k 7 (and-true (leb 1 k) (leb k 7) e).1
 -- ---- declarations and the places after them
 
 module _ (rs : List Record) where
-  pub here-start : (d : ℕ) → is_decl (at rs d).kind ≡ true → nearest (holds_at rs Decl) (d + 1) ≡ At d
+  pub here-start : (d : ℕ) → is_decl (at rs d).kind ≡ true → nearest (holds_at rs Decl) (d + 1) ≡ Some d
   unfolding nearest
   here-start d e = rw (add-one d, nearest, e)
 
-  pub here-next : (p : ℕ) {f : Found} → is_decl (at rs p).kind ≡ false → nearest (holds_at rs Decl) p ≡ f → nearest (holds_at rs Decl) (p + 1) ≡ f
+  pub here-next : (p : ℕ) {f : Option ℕ} → is_decl (at rs p).kind ≡ false → nearest (holds_at rs Decl) p ≡ f → nearest (holds_at rs Decl) (p + 1) ≡ f
   unfolding nearest
   here-next p e h = rw (add-one p, nearest, e) h
 

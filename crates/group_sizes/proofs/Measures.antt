@@ -1,4 +1,5 @@
 -- The sizes, computed in the order of the table. Assumes nothing.
+use Rattle.std.proofs.Common.{Some}
 use Prim.Native.Nat.{ℕ, zero, suc, ◌+◌, ◌-◌, ◌*◌, ◌<◌, ◌≤◌, min}
 use mathlib.Core.Path.{◌≡◌, refl, sym, ap, ◌∙◌}
 use mathlib.Core.List.{List}
@@ -15,7 +16,6 @@ use Rattle.rules.specs.Places.{nearest, holds_at}
 use Rattle.rules.specs.Kinds.{is_decl}
 use Rattle.rules.specs.InlineGroups.{is_kept, after_group}
 use Rattle.rules.specs.declared.Record.{Record}
-use Rattle.rules.specs.declared.Found.TheVariants.{At}
 use Rattle.rules.specs.declared.Target.TheVariants.{Decl}
 use Rattle.group_sizes.specs.GroupsFirst.{GroupsFirst}
 use Rattle.group_sizes.specs.Targets.{TargetsKnown}
@@ -60,7 +60,7 @@ module _ {rs : List Record} {targets sizes : List ℕ} {d s : ℕ} {after : Bool
 -- ---- a size that is stored changes none that it is counted from
 
 module _ (rs : List Record) (t : GroupsFirst rs) (targets : List ℕ) (y : TargetsKnown rs targets (length rs)) (sizes : List ℕ) (q v d : ℕ) (l : d ≤ q) where
-  at-kept : (p : ℕ) → p < length rs → nearest (holds_at rs Decl) p ≡ At d → size_at targets (set sizes q v) rs p ≡ size_at targets sizes rs p
+  at-kept : (p : ℕ) → p < length rs → nearest (holds_at rs Decl) p ≡ Some d → size_at targets (set sizes q v) rs p ≡ size_at targets sizes rs p
   unfolding size_at
   at-kept p k h = go (eqb (at rs p).kind 34) refl
     where
@@ -70,7 +70,7 @@ module _ (rs : List Record) (t : GroupsFirst rs) (targets : List ℕ) (y : Targe
           rw (size_at, i) (get_or-set_other sizes q (get_or targets p 0) v 0 (λ z. omega arith))
       go false i = rw (size_at, i)
 
-  fields-kept : (n p : ℕ) → p + n ≤ length rs → nearest (holds_at rs Decl) p ≡ At d → fields_size targets (set sizes q v) rs p n ≡ fields_size targets sizes rs p n
+  fields-kept : (n p : ℕ) → p + n ≤ length rs → nearest (holds_at rs Decl) p ≡ Some d → fields_size targets (set sizes q v) rs p n ≡ fields_size targets sizes rs p n
   unfolding fields_size
   fields-kept zero p k h = refl
   fields-kept (suc n) p k h = go (λ o. fields-kept n (p + 1) (omega arith) (here-next rs p o h)) (is_decl (at rs p).kind) refl

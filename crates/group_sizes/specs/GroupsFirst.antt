@@ -1,19 +1,17 @@
 -- In the listed table every group stands before the declaration that holds a field of it.
-use Rattle.std.specs.Prelude.{◌≡◌, true, List, ℕ, ◌<◌, length}
+use Rattle.std.specs.Prelude.{◌≡◌, true, List, ℕ, ◌<◌, length, None, Option, Some}
 use Rattle.rules.specs.Kinds as kind
 use Rattle.rules.specs.Kinds.{is}
 use Rattle.rules.specs.Table.{at}
 use Rattle.rules.specs.Places.{nearest, holds_at, decl_named}
 use Rattle.rules.specs.declared.Record.{Record}
-use Rattle.rules.specs.declared.Found.{Found}
-use Rattle.rules.specs.declared.Found.TheVariants.{At, Nothing}
 use Rattle.rules.specs.declared.Target.TheVariants.{Decl}
 
 -- both searches find something, the first at a lower place
-abbrev pub FoundBefore : Found → Found → Type 0
-FoundBefore (At g) (At d) = g < d
-FoundBefore (At g) Nothing = ⊥
-FoundBefore Nothing d = ⊥
+abbrev pub FoundBefore : Option ℕ → Option ℕ → Type 0
+FoundBefore (Some g) (Some d) = g < d
+FoundBefore (Some g) None = ⊥
+FoundBefore None d = ⊥
 
 abbrev pub GroupsFirst : List Record → Type 0
 GroupsFirst rs =

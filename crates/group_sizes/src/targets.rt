@@ -5,7 +5,6 @@ ghost use Rattle.declarations.specs.Starts.{Starts};
 ghost use Rattle.group_sizes.specs.GroupsFirst.{GroupsFirst};
 ghost use Rattle.group_sizes.specs.Targets.{TargetsKnown};
 
-use rules::Found;
 use table::{NO_PLACE, REMAINDERS};
 
 // The place of the first group field, or the end of the table: below it any targets are right.
@@ -36,7 +35,7 @@ fn fill_from(table: &[u8], starts: &[u16], from: usize, targets: &mut [u16])
         p = q + 1;
         if table::kind(table, q) == kinds::GROUP_FIELD {
             let x = table::second(table, q);
-            if let Found::At(g) = declarations::decl_named(table, starts, x) {
+            if let Some(g) = declarations::decl_named(table, starts, x) {
                 targets[q] = g as u16;
             }
         }

@@ -1,4 +1,5 @@
 -- Inlining over plain lists: what the recursion needs at each call, and shows at each turn. Assumes nothing.
+use Rattle.std.proofs.Common.{Some}
 use Prim.Native.Nat.{ℕ, zero, suc, ◌+◌, ◌-◌, ◌*◌, ◌<◌, ◌≤◌, min}
 use mathlib.Core.Path.{◌≡◌, refl, sym, ap, ◌∙◌}
 use mathlib.Core.List.{List, [], ◌∷◌, ◌++◌}
@@ -17,7 +18,6 @@ use Rattle.rules.specs.Kinds.{is_decl}
 use Rattle.rules.specs.InlineGroups.{is_constraint_or_condition, after_group, constraints, own_constraints, group_fields, inlined_record, inlined_field, inlined_fields, expand}
 use Rattle.rules.specs.declared.Record.{Record}
 use Rattle.rules.specs.declared.Inlined.{Inlined}
-use Rattle.rules.specs.declared.Found.TheVariants.{At}
 use Rattle.rules.specs.declared.Target.TheVariants.{Decl}
 use Rattle.group_sizes.specs.GroupsFirst.{GroupsFirst}
 use Rattle.group_table.specs.declared.ExpandProgress.{ExpandProgress}
@@ -41,7 +41,7 @@ min-sum a b c d h g = omega arith
 
 module _ (rs : List Record) where
   -- what comes after the declaration at d belongs to d or to a later one
-  here-past : (d : ℕ) → is_decl (at rs d).kind ≡ true → (e : ℕ) {x : ℕ} → nearest (holds_at rs Decl) e ≡ At x → x < d → e ≤ d
+  here-past : (d : ℕ) → is_decl (at rs d).kind ≡ true → (e : ℕ) {x : ℕ} → nearest (holds_at rs Decl) e ≡ Some x → x < d → e ≤ d
   unfolding nearest
   here-past d h zero q l = omega arith
   here-past d h (suc e) {x} q l = go (λ y. here-past d h e {x = y}) (is_decl (at rs e).kind) refl
@@ -50,7 +50,7 @@ module _ (rs : List Record) where
       differ i y (yes z) = z
       differ i y (no z) = let w : e ≡ d = omega arith in false-true (sym i ∙ rw w h)
 
-      go : ((y : ℕ) → nearest (holds_at rs Decl) e ≡ At y → y < d → e ≤ d) → (b : Bool) → is_decl (at rs e).kind ≡ b → suc e ≤ d
+      go : ((y : ℕ) → nearest (holds_at rs Decl) e ≡ Some y → y < d → e ≤ d) → (b : Bool) → is_decl (at rs e).kind ≡ b → suc e ≤ d
       go r true i = let z : e ≡ x = at-inj (rw (nearest, i) at q) in omega arith
       go r false i = differ i (r x (rw (nearest, i) at q) l) (dec_lt e d)
 
@@ -78,9 +78,9 @@ module _ (rs : List Record) (d : ℕ) where
     pub end : ℕ
     pub within : end ≤ p + n
     pub enough : p + length (constraints rs p n) ≤ end
-    pub here : nearest (holds_at rs Decl) end ≡ At d
+    pub here : nearest (holds_at rs Decl) end ≡ Some d
 
-  constraints-run : (n p : ℕ) → nearest (holds_at rs Decl) p ≡ At d → Run p n
+  constraints-run : (n p : ℕ) → nearest (holds_at rs Decl) p ≡ Some d → Run p n
   unfolding constraints
   constraints-run zero p h = record { end = p; within = omega arith; enough = omega arith; here = h }
   constraints-run (suc n) p h =
@@ -120,7 +120,7 @@ module _ (rs : List Record) (targets sizes : List ℕ) (t : GroupsFirst rs) (y :
   size-saturated d l i = let e = z.right d l i in omega arith
 
   module _ (d : ℕ) (e : List ℕ → ℕ → List Inlined) (ok : (env : List ℕ) (g : ℕ) → g < d → g < length rs → is_decl (at rs g).kind ≡ true → min 1601 (length (e env g)) ≡ get_or sizes g 0) where
-    group-size : (env : List ℕ) (p : ℕ) → p < length rs → eqb (at rs p).kind 34 ≡ true → nearest (holds_at rs Decl) p ≡ At d
+    group-size : (env : List ℕ) (p : ℕ) → p < length rs → eqb (at rs p).kind 34 ≡ true → nearest (holds_at rs Decl) p ≡ Some d
         → min 1601 (length (group_fields e env (decl_named rs (at rs p).second))) ≡ min 1601 (get_or sizes (get_or targets p 0) 0)
     unfolding group_fields
     group-size env p l i h =
@@ -130,7 +130,7 @@ module _ (rs : List Record) (targets sizes : List ℕ) (t : GroupsFirst rs) (y :
         let s = size-saturated (get_or targets p 0) b j in
         rw f (ok env (get_or targets p 0) (group-before rs t p l i h f) b j ∙ omega arith)
 
-    field-size : (env : List ℕ) (p : ℕ) → p < length rs → nearest (holds_at rs Decl) p ≡ At d → min 1601 (length (inlined_field e rs env p)) ≡ min 1601 (size_at targets sizes rs p)
+    field-size : (env : List ℕ) (p : ℕ) → p < length rs → nearest (holds_at rs Decl) p ≡ Some d → min 1601 (length (inlined_field e rs env p)) ≡ min 1601 (size_at targets sizes rs p)
     unfolding inlined_field size_at
     field-size env p l h = go (eqb (at rs p).kind 34) refl (is_constraint_or_condition (at rs p).kind && after_group rs p) refl
       where
@@ -139,7 +139,7 @@ module _ (rs : List Record) (targets sizes : List ℕ) (t : GroupsFirst rs) (y :
         go false i true j = rw (inlined_field, size_at, i, j)
         go false i false j = rw (inlined_field, size_at, i, j)
 
-    fields-size : (env : List ℕ) (n p : ℕ) → p + n ≤ length rs → nearest (holds_at rs Decl) p ≡ At d → min 1601 (length (inlined_fields e rs env p n)) ≡ min 1601 (fields_size targets sizes rs p n)
+    fields-size : (env : List ℕ) (n p : ℕ) → p + n ≤ length rs → nearest (holds_at rs Decl) p ≡ Some d → min 1601 (length (inlined_fields e rs env p n)) ≡ min 1601 (fields_size targets sizes rs p n)
     unfolding inlined_fields fields_size
     fields-size env zero p l h = refl
     fields-size env (suc n) p l h = go (λ o. fields-size env n (p + 1) (omega arith) (here-next rs p o h)) (is_decl (at rs p).kind) refl
@@ -164,7 +164,7 @@ module _ (rs : List Record) (targets sizes : List ℕ) (t : GroupsFirst rs) (y :
 
 pub record Walking (rs : List Record) (targets sizes : List ℕ) (d : ℕ) (env₀ : List ℕ) (n : ℕ) (out₀ : List ℕ) (a : ExpandProgress) (env out : List ℕ) (s : ExpandProgress) (after : Bool) (p : ℕ) : Type 0 where
   pub past : d < p
-  pub here : nearest (holds_at rs Decl) p ≡ At d
+  pub here : nearest (holds_at rs Decl) p ≡ Some d
   pub flag : after ≡ after_group rs p
   pub made : (k : ℕ) → d ≤ k → added_all (output a out₀) (fields_from (expand rs k) rs (take n env₀) (d + 1)) ≡ added_all (output s out) (fields_from (expand rs k) rs (take n env₀) p)
   pub kept : take n env ≡ take n env₀
@@ -236,7 +236,7 @@ module _ {rs : List Record} {targets sizes : List ℕ} {d : ℕ} {env₀ : List 
         g : ℕ
         g = get_or targets p 0
 
-        found : decl_named rs (at rs p).second ≡ At g
+        found : decl_named rs (at rs p).second ≡ Some g
         unfolding g
         found = y.resolved.right p l (eq-eqb _ _ k34)
 

@@ -1,5 +1,5 @@
 -- Records written one after another, and what the recursion over the groups needs and gives.
-use Rattle.std.specs.Prelude.{ℕ, ◌+◌, ◌*◌, ◌≤◌, ◌<◌, ◌≡◌, List, [], ◌∷◌, true, length, get_or, take, if◌then◌else◌}
+use Rattle.std.specs.Prelude.{ℕ, ◌+◌, ◌*◌, ◌≤◌, ◌<◌, ◌≡◌, List, [], ◌∷◌, true, length, get_or, take, if◌then◌else◌, None, Option, Some}
 use Rattle.rules.specs.Bytes.{written}
 use Rattle.rules.specs.Table.{at, record_bytes, field_key}
 use Rattle.rules.specs.Places.{nearest, holds_at}
@@ -7,19 +7,17 @@ use Rattle.rules.specs.Kinds.{is_decl}
 use Rattle.rules.specs.InlineGroups.{expand}
 use Rattle.rules.specs.declared.Record.{Record}
 use Rattle.rules.specs.declared.Inlined.{Inlined}
-use Rattle.rules.specs.declared.Found.TheVariants.{At}
 use Rattle.rules.specs.declared.Target.TheVariants.{Decl}
 use Rattle.group_sizes.specs.GroupsFirst.{GroupsFirst}
 use Rattle.group_table.specs.declared.ExpandProgress.{ExpandProgress}
-use Rattle.group_table.specs.declared.Fit.{Fit}
-use Rattle.group_table.specs.declared.Fit.TheVariants.{All, Unfit}
+use Rattle.rules.specs.declared.FieldKey.{FieldKey}
 use Rattle.group_sizes.specs.Targets.{TargetsKnown}
 use Rattle.group_sizes.specs.Sizes.{Sized, total_size}
 
 -- the first record that is not fit tells its key
-unfoldable pub fit_after : Fit → Inlined → Fit
-fit_after (Unfit k) x = Unfit k
-fit_after All x = if x.fit then All else Unfit (field_key x.made)
+unfoldable pub unfit_after : Option FieldKey → Inlined → Option FieldKey
+unfit_after (Some k) x = Some k
+unfit_after None x = if x.fit then None else Some (field_key x.made)
 
 -- the progress, and the bytes of the buffer
 pub record Output : Type 0 where
@@ -32,7 +30,7 @@ output a b = record { progress = a; bytes = b }
 -- one record more
 unfoldable pub added : Output → Inlined → Output
 added o x =
-    output (record { count = o.progress.count + 1; fit = fit_after o.progress.fit x })
+    output (record { count = o.progress.count + 1; unfit = unfit_after o.progress.unfit x })
     (written o.bytes (40 * o.progress.count) (record_bytes x.made))
 
 unfoldable pub added_all : Output → List Inlined → Output
@@ -41,7 +39,7 @@ added_all o (x ∷ xs) = added_all (added o x) xs
 
 -- nothing written yet
 abbrev pub empty : ExpandProgress
-empty = record { count = 0; fit = All }
+empty = record { count = 0; unfit = None }
 
 -- what the whole table needs, with its targets and sizes known
 pub record RoomForInlined (rs : List Record) (targets sizes env out : List ℕ) : Type 0 where
@@ -60,7 +58,7 @@ pub record ExpandReady (rs : List Record) (targets sizes : List ℕ) (d : ℕ) (
   pub sized : Sized rs targets sizes (length rs)
   pub decl : (d < length rs) × (is_decl (at rs d).kind ≡ true)
   pub stack : n ≤ length env
-  pub spare : (e : ℕ) → e ≤ length rs → nearest (holds_at rs Decl) e ≡ At d → n + e ≤ length env
+  pub spare : (e : ℕ) → e ≤ length rs → nearest (holds_at rs Decl) e ≡ Some d → n + e ≤ length env
   pub room : a.count + get_or sizes d 0 ≤ 1600
   pub wide : 40 * (a.count + get_or sizes d 0) ≤ length out
 

@@ -5,41 +5,25 @@ ghost use Rattle.std.specs.Prelude.{◌≡◌, ◌+◌, ◌*◌, ◌≤◌, leng
 ghost use Rattle.rules.specs.Table.{decode};
 ghost use Rattle.rules.specs.InlineGroups.{inlined};
 ghost use Rattle.group_sizes.specs.Sizes.{total_size};
-ghost use Rattle.group_table.specs.Outputs.{fit_after, output, added, added_all, empty, RoomForInlined, ExpandReady, Expanded};
+ghost use Rattle.group_table.specs.Outputs.{unfit_after, output, added, added_all, empty, RoomForInlined, ExpandReady, Expanded};
 
 use group_constraints::{inlined_record, push_constraints};
 use kinds::{is_constraint_or_condition, is_kept};
 use records::record;
 use rules::{FieldKey, Inlined};
 
-// Whether every record so far is fit, or the key of the first that is not.
-#[derive(Clone, Copy)]
-pub enum Fit {
-    All,
-    Unfit(FieldKey),
-}
-
-// How many records are written, and whether all are fit.
+// How many records are written, and the key of the first that is not fit.
 #[derive(Clone, Copy)]
 pub struct ExpandProgress {
     pub count: usize,
-    pub fit: Fit,
+    pub unfit: Option<FieldKey>,
 }
 
 // The first record that is not fit tells its key.
-fn fit_after(fit: Fit, next: Inlined) -> Fit
-    ensures { result ≡ fit_after fit next }
+fn unfit_after(unfit: Option<FieldKey>, next: Inlined) -> Option<FieldKey>
+    ensures { result ≡ unfit_after unfit next }
 {
-    match fit {
-        Fit::Unfit(k) => Fit::Unfit(k),
-        Fit::All => {
-            if next.fit {
-                Fit::All
-            } else {
-                Fit::Unfit(FieldKey(next.made.key))
-            }
-        }
-    }
+    unfit.or((!next.fit).then_some(FieldKey(next.made.key)))
 }
 
 // Writes one record more.
@@ -48,11 +32,14 @@ fn add(out: &mut [u8], progress: ExpandProgress, next: Inlined) -> ExpandProgres
     ensures { output result out.new ≡ added (output progress out.old) next }
 {
     let n = progress.count;
-    let f = progress.fit;
+    let f = progress.unfit;
     let made = next.made;
-    let fit = fit_after(f, next);
+    let unfit = unfit_after(f, next);
     store::put(out, n, made);
-    ExpandProgress { count: n + 1, fit }
+    ExpandProgress {
+        count: n + 1,
+        unfit,
+    }
 }
 
 // Writes what stands behind the declaration at `decl`, under the constraints at the first `top` places of `env`. The group of a
@@ -112,7 +99,7 @@ pub fn write_all(
     let end = table::count(table);
     let mut s = ExpandProgress {
         count: 0,
-        fit: Fit::All,
+        unfit: None,
     };
     let mut d = 0;
     while d < end {

@@ -1,5 +1,6 @@
 -- What the analyzer needs of inlining: its bytes are read back as the inlined records, and its answer decides the reply.
 -- Assumes nothing.
+use Rattle.std.proofs.Common.{Option, None, Some, Result, Ok, Err}
 use Prim.Native.Nat.{ℕ, zero, suc, ◌+◌, ◌-◌, ◌*◌, ◌^◌, ◌<◌, ◌≤◌}
 use mathlib.Core.Path.{◌≡◌, refl}
 use mathlib.Core.List.{List, [], ◌∷◌, ◌++◌, map}
@@ -20,12 +21,10 @@ use Rattle.rules.specs.Replies.{answered, flagged, by_size}
 use Rattle.rules.specs.declared.Record.{Record}
 use Rattle.rules.specs.declared.Inlined.{Inlined}
 use Rattle.rules.specs.declared.FieldKey.{FieldKey}
-use Rattle.rules.specs.declared.Found.{Found}
-use Rattle.rules.specs.declared.Found.TheVariants.{At, Nothing}
 use Rattle.rules.specs.declared.Reply.TheVariants as reply
 use Rattle.table.proofs.Laws.{at-decode}
-use Rattle.inline_groups.specs.declared.Inlining.{Inlining}
-use Rattle.inline_groups.specs.declared.Inlining.TheVariants as inlinings
+use Rattle.inline_groups.specs.declared.InlineError.{InlineError}
+use Rattle.inline_groups.specs.declared.InlineError.TheVariants as errors
 use Rattle.inline_groups.specs.Inlinings.{inlined_or_unfit, inlining, inlining_bytes}
 use Rattle.store.proofs.Laws.{length-encode}
 use Rattle.inline_groups.proofs.Wholes.{length-records}
@@ -97,10 +96,10 @@ module _ (rs : List Record) (ok : (p : ℕ) → Fits (at rs p)) where
   enum-fits r c f g =
       record { kind = omega arith; marks = omega arith; name = omega arith; second = f.second; third = g.second; one = omega arith; two = omega arith; key = f.key; start = f.start; end = f.end }
 
-  under-fits : (fix : Record → Record → Inlined) → ((r c : Record) → Fits r → Fits c → Fits (fix r c).made) → (r : Record) → Fits r → (f : Found) → Fits (under fix rs r f).made
+  under-fits : (fix : Record → Record → Inlined) → ((r c : Record) → Fits r → Fits c → Fits (fix r c).made) → (r : Record) → Fits r → (f : Option ℕ) → Fits (under fix rs r f).made
   unfolding under
-  under-fits fix h r g Nothing = g
-  under-fits fix h r g (At q) = h r (at rs q) g (ok q)
+  under-fits fix h r g None = g
+  under-fits fix h r g (Some q) = h r (at rs q) g (ok q)
 
   made-fits : (env : List ℕ) (r : Record) → Fits r → Fits (inlined_record rs env r).made
   unfolding inlined_record
@@ -112,10 +111,10 @@ module _ (rs : List Record) (ok : (p : ℕ) → Fits (at rs p)) where
       go false i false j = rw (inlined_record, i, j) f
 
   module _ (e : List ℕ → ℕ → List Inlined) (good : (env : List ℕ) (g : ℕ) → Good (e env g)) where
-    group-good : (env : List ℕ) (f : Found) → Good (group_fields e env f)
+    group-good : (env : List ℕ) (f : Option ℕ) → Good (group_fields e env f)
     unfolding group_fields
-    group-good env Nothing = good_none
-    group-good env (At g) = good env g
+    group-good env None = good_none
+    group-good env (Some g) = good env g
 
     field-good : (env : List ℕ) (p : ℕ) → Good (inlined_field e rs env p)
     unfolding inlined_field
@@ -159,11 +158,11 @@ module _ (rs : List Record) (ok : (p : ℕ) → Fits (at rs p)) where
 
 -- ---- what each answer says of the reply, and of the number of records, which stand at the start of a buffer of m bytes
 
-unfoldable pub Replied : ℕ → List Inlined → List ℕ → List ℕ → Inlining → Type 0
-Replied m xs t f inlinings.Swollen = answered reply.Swollen t f ≡ by_size xs t f
-Replied m xs t f inlinings.BufferShort = (length xs ≤ 1600) × (m < 40 * length xs)
-Replied m xs t f (inlinings.Unfit k) = answered (reply.Unfit k) t f ≡ by_size xs t f
-Replied m xs t f (inlinings.Inlined n) =
+unfoldable pub Replied : ℕ → List Inlined → List ℕ → List ℕ → Result ℕ InlineError → Type 0
+Replied m xs t f (Err errors.Swollen) = answered reply.Swollen t f ≡ by_size xs t f
+Replied m xs t f (Err errors.BufferShort) = (length xs ≤ 1600) × (m < 40 * length xs)
+Replied m xs t f (Err (errors.Unfit k)) = answered (reply.Unfit k) t f ≡ by_size xs t f
+Replied m xs t f (Ok n) =
     (n ≤ 1600) × (n ≡ length xs) × (40 * n ≤ m) × (flagged (map record_of xs) t f ≡ by_size xs t f)
 
 module _ (m : ℕ) (xs : List Inlined) (t f : List ℕ) where
@@ -171,40 +170,40 @@ module _ (m : ℕ) (xs : List Inlined) (t f : List ℕ) where
   unfolding Replied inlining by_size inlined_or_unfit replies.by_unfit
   replied = go (ltb 1600 (length xs)) refl (ltb m (40 * length xs)) refl (first_unfit xs) refl
     where
-      go : (b : Bool) → ltb 1600 (length xs) ≡ b → (c : Bool) → ltb m (40 * length xs) ≡ c → (u : Found) → first_unfit xs ≡ u → Replied m xs t f (inlining m xs)
+      go : (b : Bool) → ltb 1600 (length xs) ≡ b → (c : Bool) → ltb m (40 * length xs) ≡ c → (u : Option ℕ) → first_unfit xs ≡ u → Replied m xs t f (inlining m xs)
       go true i c k u j = let e : answered reply.Swollen t f ≡ by_size xs t f = rw (by_size, i) in rw (inlining, i) e
       go false i true k u j = rw (inlining, i, k) (ltb-false _ _ i, ltb-true _ _ k)
-      go false i false k (At p) j =
+      go false i false k (Some p) j =
           let e : answered (reply.Unfit (field_key (get_or xs p (kept blank)).made)) t f ≡ by_size xs t f = rw (by_size, i, j) in
           rw (inlining, i, k, j) e
-      go false i false k Nothing j =
+      go false i false k None j =
           let e : flagged (map record_of xs) t f ≡ by_size xs t f = rw (by_size, i, j) in
           rw (inlining, i, k, j) (ltb-false _ _ i, refl, ltb-false _ _ k, e)
 
-  pub reply-swollen : inlining m xs ≡ inlinings.Swollen → answered reply.Swollen t f ≡ by_size xs t f
+  pub reply-swollen : inlining m xs ≡ Err errors.Swollen → answered reply.Swollen t f ≡ by_size xs t f
   unfolding Replied
   reply-swollen e = rw e at replied
 
-  pub reply-unfit : (k : FieldKey) → inlining m xs ≡ inlinings.Unfit k → answered (reply.Unfit k) t f ≡ by_size xs t f
+  pub reply-unfit : (k : FieldKey) → inlining m xs ≡ Err (errors.Unfit k) → answered (reply.Unfit k) t f ≡ by_size xs t f
   unfolding Replied
   reply-unfit k e = rw e at replied
 
-  pub reply-inlined : (n : ℕ) → inlining m xs ≡ inlinings.Inlined n → flagged (map record_of xs) t f ≡ by_size xs t f
+  pub reply-inlined : (n : ℕ) → inlining m xs ≡ Ok n → flagged (map record_of xs) t f ≡ by_size xs t f
   unfolding Replied
-  reply-inlined n e = let r : Replied m xs t f (inlinings.Inlined n) = rw e at replied in r.3
+  reply-inlined n e = let r : Replied m xs t f (Ok n) = rw e at replied in r.3
 
 -- a buffer for 1,600 records is long enough
-pub enough-room : (m : ℕ) (xs : List Inlined) → 64000 ≤ m → ¬ (inlining m xs ≡ inlinings.BufferShort)
+pub enough-room : (m : ℕ) (xs : List Inlined) → 64000 ≤ m → ¬ (inlining m xs ≡ Err errors.BufferShort)
 unfolding Replied
-enough-room m xs h e = let r : Replied m xs [] [] inlinings.BufferShort = rw e at (replied m xs [] []) in omega (arith, r.0, r.1)
+enough-room m xs h e = let r : Replied m xs [] [] (Err errors.BufferShort) = rw e at (replied m xs [] []) in omega (arith, r.0, r.1)
 
 -- ---- where the answer is a number of records, they stand at the start of the buffer
 
-pub few-records : (m : ℕ) (xs : List Inlined) (n : ℕ) → inlining m xs ≡ inlinings.Inlined n → (n ≤ 1600) × (n ≡ length xs) × (40 * n ≤ m)
+pub few-records : (m : ℕ) (xs : List Inlined) (n : ℕ) → inlining m xs ≡ Ok n → (n ≤ 1600) × (n ≡ length xs) × (40 * n ≤ m)
 unfolding Replied
-few-records m xs n e = let r : Replied m xs [] [] (inlinings.Inlined n) = rw e at (replied m xs [] []) in (r.0, r.1, r.2)
+few-records m xs n e = let r : Replied m xs [] [] (Ok n) = rw e at (replied m xs [] []) in (r.0, r.1, r.2)
 
-front : (b : List ℕ) (xs : List Inlined) (n : ℕ) → inlining (length b) xs ≡ inlinings.Inlined n → take (40 * n) (inlining_bytes b xs) ≡ encode (map record_of xs)
+front : (b : List ℕ) (xs : List Inlined) (n : ℕ) → inlining (length b) xs ≡ Ok n → take (40 * n) (inlining_bytes b xs) ≡ encode (map record_of xs)
 unfolding inlining_bytes
 front b xs n e =
     let r = few-records (length b) xs n e in
@@ -214,7 +213,7 @@ front b xs n e =
     rw (inlining_bytes, le-ltb _ _ few, le-ltb _ _ fits)
     (take_at (encode (map record_of xs)) (drop (0 + length (encode (map record_of xs))) b) (40 * n) l)
 
-pub read-records : (t : List ℕ) (small : (i : ℕ) → get_or t i 0 < 256) (b : List ℕ) (n : ℕ) → inlining (length b) (inlined (decode t)) ≡ inlinings.Inlined n
+pub read-records : (t : List ℕ) (small : (i : ℕ) → get_or t i 0 < 256) (b : List ℕ) (n : ℕ) → inlining (length b) (inlined (decode t)) ≡ Ok n
     → decode (take (40 * n) (inlining_bytes b (inlined (decode t)))) ≡ map record_of (inlined (decode t))
 read-records t small b n e =
     rw (front b (inlined (decode t)) n e) (decode-encode (map record_of (inlined (decode t))) (inlined-fits (decode t) (at-fits t small)))

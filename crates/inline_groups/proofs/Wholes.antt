@@ -1,4 +1,5 @@
 -- The inlined table as bytes, and the answer. Assumes nothing.
+use Rattle.std.proofs.Common.{Option, None, Some, Result, Ok, Err}
 use Prim.Native.Nat.{ℕ, suc, ◌+◌, ◌*◌, ◌<◌, ◌≤◌}
 use mathlib.Core.Path.{◌≡◌, refl, sym, ap, ◌∙◌}
 use mathlib.Core.List.{List, [], ◌∷◌, ◌++◌, map, append-nil}
@@ -17,13 +18,11 @@ use Rattle.rules.specs.declared.FieldKey.{FieldKey}
 use Rattle.store.proofs.Laws.{length-record, length-written, written-more}
 use Rattle.group_sizes.specs.GroupsFirst.{GroupsFirst}
 use Rattle.group_table.specs.declared.ExpandProgress.{ExpandProgress}
-use Rattle.group_table.specs.declared.Fit.{Fit}
-use Rattle.group_table.specs.declared.Fit.TheVariants.{All, Unfit}
-use Rattle.inline_groups.specs.declared.Inlining.{Inlining}
-use Rattle.inline_groups.specs.declared.Inlining.TheVariants.{Swollen, BufferShort}
+use Rattle.inline_groups.specs.declared.InlineError.{InlineError}
+use Rattle.inline_groups.specs.declared.InlineError.TheVariants.{Swollen, BufferShort}
 use Rattle.group_sizes.specs.Targets.{TargetsKnown}
 use Rattle.group_sizes.specs.Sizes.{total_size, Sized}
-use Rattle.group_table.specs.Outputs.{Output, output, fit_after, added, added_all, empty}
+use Rattle.group_table.specs.Outputs.{Output, output, unfit_after, added, added_all, empty}
 use Rattle.inline_groups.specs.Inlinings.{inlined_or_unfit, by_fit, inlining, inlining_bytes}
 use Rattle.group_table.proofs.Totals.{inlined-size}
 
@@ -34,13 +33,13 @@ length-records [] = refl
 length-records (x ∷ xs) = ap suc (length-records xs)
 
 -- the first record that is not fit tells its key
-unfoldable fit_of : Fit → List Inlined → Fit
-fit_of f [] = f
-fit_of f (x ∷ xs) = fit_of (fit_after f x) xs
+unfoldable unfit_of : Option FieldKey → List Inlined → Option FieldKey
+unfit_of f [] = f
+unfit_of f (x ∷ xs) = unfit_of (unfit_after f x) xs
 
-added-bytes : (xs : List Inlined) (c : ℕ) (f : Fit) (b : List ℕ) → 40 * (c + length xs) ≤ length b
-    → added_all (output (record { count = c; fit = f }) b) xs ≡ output (record { count = c + length xs; fit = fit_of f xs }) (written b (40 * c) (encode (map record_of xs)))
-unfolding added_all added fit_of encode
+added-bytes : (xs : List Inlined) (c : ℕ) (f : Option FieldKey) (b : List ℕ) → 40 * (c + length xs) ≤ length b
+    → added_all (output (record { count = c; unfit = f }) b) xs ≡ output (record { count = c + length xs; unfit = unfit_of f xs }) (written b (40 * c) (encode (map record_of xs)))
+unfolding added_all added unfit_of encode
 added-bytes [] c f b h =
     let e : take (40 * c) b ++ [] ++ drop (40 * c + 0) b ≡ b = rw (append-nil (take (40 * c) b), add-zero (40 * c)) (take-append-drop (40 * c) b) in
     rw (e, add-zero c)
@@ -49,31 +48,31 @@ added-bytes (x ∷ xs) c f b h =
     let l = length-written b (40 * c) (record_bytes x.made) (omega arith) in
     let n : 40 * (c + 1) ≡ 40 * c + length (record_bytes x.made) = omega arith in
     let m : c + 1 + length xs ≡ c + suc (length xs) = omega arith in
-    added-bytes xs (c + 1) (fit_after f x) (written b (40 * c) (record_bytes x.made)) (omega arith)
+    added-bytes xs (c + 1) (unfit_after f x) (written b (40 * c) (record_bytes x.made)) (omega arith)
     ∙ rw (n, written-more b (record_bytes x.made) (encode (map record_of xs)) (40 * c) (omega arith), m)
 
 -- ---- the key that is kept is that of the first that is not fit
 
-unfit-stays : (k : FieldKey) (xs : List Inlined) → fit_of (Unfit k) xs ≡ Unfit k
-unfolding fit_of fit_after
+unfit-stays : (k : FieldKey) (xs : List Inlined) → unfit_of (Some k) xs ≡ Some k
+unfolding unfit_of unfit_after
 unfit-stays k [] = refl
 unfit-stays k (x ∷ xs) = unfit-stays k xs
 
 -- xs is what ys has from p on
 unfit-from : (ys : List Inlined) (n p : ℕ) (xs : List Inlined) → ((i : ℕ) → get_or ys (p + i) (kept blank) ≡ get_or xs i (kept blank)) → n ≡ length ys
-    → by_fit n (fit_of All xs) ≡ inlined_or_unfit ys (first (unfit_at ys) p (length xs))
-unfolding fit_of fit_after by_fit inlined_or_unfit first
+    → by_fit n (unfit_of None xs) ≡ inlined_or_unfit ys (first (unfit_at ys) p (length xs))
+unfolding unfit_of unfit_after by_fit inlined_or_unfit first
 unfit-from ys n p [] h e = rw e
 unfit-from ys n p (x ∷ xs) h e = go x.fit refl (unfit-from ys n (p + 1) xs (λ i. ap (λ (j : ℕ). get_or ys j (kept blank)) (omega arith) ∙ h (suc i)) e)
   where
     here : get_or ys p (kept blank) ≡ x
     here = ap (λ (j : ℕ). get_or ys j (kept blank)) (sym (add-zero p)) ∙ h 0
 
-    go : (b : Bool) → x.fit ≡ b → by_fit n (fit_of All xs) ≡ inlined_or_unfit ys (first (unfit_at ys) (p + 1) (length xs)) → by_fit n (fit_of (fit_after All x) xs) ≡ inlined_or_unfit ys (first (unfit_at ys) p (suc (length xs)))
-    go true i r = let u : unfit_at ys p ≡ false = rw (here, i) in rw (fit_after, i, first, u) r
-    go false i r = let u : unfit_at ys p ≡ true = rw (here, i) in rw (fit_after, i, first, u, unfit-stays (field_key x.made) xs, here)
+    go : (b : Bool) → x.fit ≡ b → by_fit n (unfit_of None xs) ≡ inlined_or_unfit ys (first (unfit_at ys) (p + 1) (length xs)) → by_fit n (unfit_of (unfit_after None x) xs) ≡ inlined_or_unfit ys (first (unfit_at ys) p (suc (length xs)))
+    go true i r = let u : unfit_at ys p ≡ false = rw (here, i) in rw (unfit_after, i, first, u) r
+    go false i r = let u : unfit_at ys p ≡ true = rw (here, i) in rw (unfit_after, i, first, u, unfit-stays (field_key x.made) xs, here)
 
-first-unfit : (xs : List Inlined) → by_fit (length xs) (fit_of All xs) ≡ inlined_or_unfit xs (first_unfit xs)
+first-unfit : (xs : List Inlined) → by_fit (length xs) (unfit_of None xs) ≡ inlined_or_unfit xs (first_unfit xs)
 unfolding first_unfit
 first-unfit xs = unfit-from xs (length xs) 0 xs (λ i. ap (λ (j : ℕ). get_or xs j (kept blank)) (zero-add i)) refl
 
@@ -84,7 +83,7 @@ module _ {rs : List Record} {targets sizes : List ℕ} (t : GroupsFirst rs) (y :
     swollen : 1600 < length (inlined rs)
     swollen = let e = inlined-size rs targets sizes t y z in omega arith
 
-    pub ret-swollen : (Swollen ≡ inlining (length b) (inlined rs)) × (b ≡ inlining_bytes b (inlined rs))
+    pub ret-swollen : (Err Swollen ≡ inlining (length b) (inlined rs)) × (b ≡ inlining_bytes b (inlined rs))
     unfolding inlining inlining_bytes
     ret-swollen = (rw (lt-ltb _ _ swollen), rw (lt-ltb _ _ swollen))
 
@@ -96,7 +95,7 @@ module _ {rs : List Record} {targets sizes : List ℕ} (t : GroupsFirst rs) (y :
     few = let e = size in omega arith
 
     pub ret-buffer-short : length out₀ < 40 * total_size sizes rs (length rs)
-        → (BufferShort ≡ inlining (length out₀) (inlined rs)) × (out₀ ≡ inlining_bytes out₀ (inlined rs))
+        → (Err BufferShort ≡ inlining (length out₀) (inlined rs)) × (out₀ ≡ inlining_bytes out₀ (inlined rs))
     unfolding inlining inlining_bytes
     ret-buffer-short l =
         let e = size in
@@ -107,12 +106,12 @@ module _ {rs : List Record} {targets sizes : List ℕ} (t : GroupsFirst rs) (y :
       fits : 40 * length (inlined rs) ≤ length out₀
       fits = let e = size in omega arith
 
-      whole : output s out ≡ output (record { count = length (inlined rs); fit = fit_of All (inlined rs) }) (written out₀ 0 (encode (map record_of (inlined rs))))
-      whole = let f = fits in p ∙ added-bytes (inlined rs) 0 All out₀ (omega arith) ∙ rw (zero-add (length (inlined rs)))
+      whole : output s out ≡ output (record { count = length (inlined rs); unfit = unfit_of None (inlined rs) }) (written out₀ 0 (encode (map record_of (inlined rs))))
+      whole = let f = fits in p ∙ added-bytes (inlined rs) 0 None out₀ (omega arith) ∙ rw (zero-add (length (inlined rs)))
 
-      pub ret-fits : {r : Inlining} → r ≡ by_fit s.count s.fit → (r ≡ inlining (length out₀) (inlined rs)) × (out ≡ inlining_bytes out₀ (inlined rs))
+      pub ret-fits : {r : Result ℕ InlineError} → r ≡ by_fit s.count s.unfit → (r ≡ inlining (length out₀) (inlined rs)) × (out ≡ inlining_bytes out₀ (inlined rs))
       unfolding inlining inlining_bytes
       ret-fits e = (
-        e ∙ ap (λ (u : Output). by_fit u.progress.count u.progress.fit) whole ∙ first-unfit (inlined rs) ∙ rw (le-ltb _ _ few, le-ltb _ _ fits),
+        e ∙ ap (λ (u : Output). by_fit u.progress.count u.progress.unfit) whole ∙ first-unfit (inlined rs) ∙ rw (le-ltb _ _ few, le-ltb _ _ fits),
         ap (λ (u : Output). u.bytes) whole ∙ rw (le-ltb _ _ few, le-ltb _ _ fits),
       )

@@ -1,39 +1,36 @@
 -- The answer of inlining, and the bytes that it writes.
-use Rattle.std.specs.Prelude.{ℕ, ◌*◌, List, [], ◌∷◌, map, length, get_or, ltb, if◌then◌else◌}
+use Rattle.std.specs.Prelude.{ℕ, ◌*◌, List, [], ◌∷◌, map, length, get_or, ltb, if◌then◌else◌, None, Option, Some, Result, Ok, Err}
 use Rattle.rules.specs.Bytes.{written}
 use Rattle.rules.specs.Table.{record_length, most_records, blank, encode, field_key}
 use Rattle.rules.specs.InlineGroups.{kept, record_of, first_unfit}
 use Rattle.rules.specs.Replies.{Numbered, numbers}
 use Rattle.rules.specs.declared.Inlined.{Inlined}
-use Rattle.rules.specs.declared.Found.{Found}
-use Rattle.rules.specs.declared.Found.TheVariants.{At, Nothing}
-use Rattle.group_table.specs.declared.Fit.{Fit}
-use Rattle.group_table.specs.declared.Fit.TheVariants.{All, Unfit}
-use Rattle.inline_groups.specs.declared.Inlining.{Inlining}
-use Rattle.inline_groups.specs.declared.Inlining.TheVariants as inlinings
+use Rattle.rules.specs.declared.FieldKey.{FieldKey}
+use Rattle.inline_groups.specs.declared.InlineError.{InlineError}
+use Rattle.inline_groups.specs.declared.InlineError.TheVariants.{Swollen, BufferShort, Unfit}
 
 -- the row of the table of replies and its values; 0 where none applies yet, with the number of records if they are written
-unfoldable pub inlining_numbered : Inlining → Numbered
-inlining_numbered inlinings.Swollen = numbers 5 []
-inlining_numbered inlinings.BufferShort = numbers 0 []
-inlining_numbered (inlinings.Unfit key) = numbers 6 (key.0 ∷ [])
-inlining_numbered (inlinings.Inlined records) = numbers 0 (records ∷ [])
+unfoldable pub inlining_numbered : Result ℕ InlineError → Numbered
+inlining_numbered (Err Swollen) = numbers 5 []
+inlining_numbered (Err BufferShort) = numbers 0 []
+inlining_numbered (Err (Unfit key)) = numbers 6 (key.0 ∷ [])
+inlining_numbered (Ok records) = numbers 0 (records ∷ [])
 
 -- the first record that is not fit, or how many there are
-unfoldable pub inlined_or_unfit : List Inlined → Found → Inlining
-inlined_or_unfit xs (At i) = inlinings.Unfit (field_key (get_or xs i (kept blank)).made)
-inlined_or_unfit xs Nothing = inlinings.Inlined (length xs)
+unfoldable pub inlined_or_unfit : List Inlined → Option ℕ → Result ℕ InlineError
+inlined_or_unfit xs (Some i) = Err (Unfit (field_key (get_or xs i (kept blank)).made))
+inlined_or_unfit xs None = Ok (length xs)
 
 -- the answer once all is written
-unfoldable pub by_fit : ℕ → Fit → Inlining
-by_fit n All = inlinings.Inlined n
-by_fit n (Unfit k) = inlinings.Unfit k
+unfoldable pub by_fit : ℕ → Option FieldKey → Result ℕ InlineError
+by_fit n None = Ok n
+by_fit n (Some k) = Err (Unfit k)
 
 -- the answer for the records of an inlined table and a buffer of m bytes
-unfoldable pub inlining : ℕ → List Inlined → Inlining
+unfoldable pub inlining : ℕ → List Inlined → Result ℕ InlineError
 inlining m xs =
-    if ltb most_records (length xs) then inlinings.Swollen
-    else if ltb m (record_length * length xs) then inlinings.BufferShort
+    if ltb most_records (length xs) then Err Swollen
+    else if ltb m (record_length * length xs) then Err BufferShort
     else inlined_or_unfit xs (first_unfit xs)
 
 -- a buffer b with those records at its start, unless they are too many or longer than b

@@ -7,28 +7,26 @@ ghost use Rattle.rules.specs.InlineGroups.{inlined};
 ghost use Rattle.group_sizes.specs.GroupsFirst.{GroupsFirst};
 ghost use Rattle.inline_groups.specs.Inlinings.{inlining, inlining_numbered, by_fit, inlining_bytes};
 
-use group_table::{ExpandProgress, Fit};
+use group_table::ExpandProgress;
 use rules::FieldKey;
 use rules::limits::{MOST_RECORDS, RECORD_LENGTH};
 
-// The answer of inlining: a row of the table of replies, or how many records the inlined table has.
+// Why there is no inlined table: a row of the table of replies, or a buffer that is too short for it.
 #[derive(Clone, Copy)]
-pub enum Inlining {
+pub enum InlineError {
     Swollen,
     // the inlined table is longer than the buffer
     BufferShort,
     Unfit(FieldKey),
-    Inlined(usize),
 }
 
-fn by_fit(progress: ExpandProgress) -> Inlining
-    ensures { result ≡ by_fit progress.count progress.fit }
+fn by_fit(progress: ExpandProgress) -> Result<usize, InlineError>
+    ensures { result ≡ by_fit progress.count progress.unfit }
 {
-    let n = progress.count;
-    let f = progress.fit;
-    match f {
-        Fit::All => Inlining::Inlined(n),
-        Fit::Unfit(k) => Inlining::Unfit(k),
+    let count = progress.count;
+    match progress.unfit {
+        None => Ok(count),
+        Some(key) => Err(InlineError::Unfit(key)),
     }
 }
 
@@ -39,7 +37,7 @@ fn inline_with(
     sizes: &mut [u16],
     env: &mut [u16],
     out: &mut [u8],
-) -> Inlining
+) -> Result<usize, InlineError>
     requires table_len_bound { (length (decode table.now) ≤ 1600) × (length (decode table.now) ≤ length targets.old) × (length (decode table.now) ≤ length sizes.old) × (length (decode table.now) ≤ length env.old) }
     requires groups_first { GroupsFirst (decode table.now) }
     ensures { (result ≡ inlining (length out.old) (inlined (decode table.now))) × (out.new ≡ inlining_bytes out.old (inlined (decode table.now))) }
@@ -48,17 +46,17 @@ fn inline_with(
     group_sizes::measure(table, targets, sizes);
     let n = group_sizes::total(table, sizes);
     if MOST_RECORDS < n {
-        return Inlining::Swollen;
+        return Err(InlineError::Swollen);
     }
     if out.len() < RECORD_LENGTH * n {
-        return Inlining::BufferShort;
+        return Err(InlineError::BufferShort);
     }
     let a = group_table::write_all(table, targets, sizes, env, out);
     by_fit(a)
 }
 
-// Inlines the groups of a table in listed order into a buffer, if the inlined table fits it.
-pub fn inline_groups(table: &[u8], out: &mut [u8]) -> Inlining
+// Inlines the groups of a table in listed order into a buffer, if the inlined table fits it. Returns how many records it has.
+pub fn inline_groups(table: &[u8], out: &mut [u8]) -> Result<usize, InlineError>
     requires table_len_bound { length (decode table.now) ≤ 1600 }
     requires groups_first { GroupsFirst (decode table.now) }
     ensures value { (result ≡ inlining (length out.old) (inlined (decode table.now))) × (out.new ≡ inlining_bytes out.old (inlined (decode table.now))) }

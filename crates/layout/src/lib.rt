@@ -10,7 +10,7 @@ ghost use Rattle.rules.specs.Replies.{layout_numbered};
 ghost use Rattle.layout.specs.Surroundings.{around, after};
 
 use kinds::{holds_fields, is_decl, is_field, is_packet_or_struct};
-use rules::Layout;
+use rules::LayoutError;
 use rules::limits::{MOST_RECORDS, RECORD_LENGTH};
 
 // The kinds around a place: of its declaration, and of the records two and one before it; 0 outside the table.
@@ -88,16 +88,16 @@ fn step(surroundings: Around, kind: u8) -> Around
 }
 
 // The rows Uneven, TooLong and Malformed, or a sound layout.
-pub fn check_layout(table: &[u8]) -> Layout
+pub fn check_layout(table: &[u8]) -> Result<(), LayoutError>
     ensures value { result ≡ layout table.now }
     ensures numbered { layout_numbered result ≡ layout_numbered (layout table.now) }
 {
     if table.len() % RECORD_LENGTH != 0 {
-        return Layout::Uneven;
+        return Err(LayoutError::Uneven);
     }
     let n = table::count(table);
     if MOST_RECORDS < n {
-        return Layout::TooLong;
+        return Err(LayoutError::TooLong);
     }
     let mut a = Around {
         decl: 0,
@@ -107,10 +107,10 @@ pub fn check_layout(table: &[u8]) -> Layout
     let mut p = 0;
     while p < n {
         if !sound_at(table, p, a) {
-            return Layout::Malformed(p);
+            return Err(LayoutError::Malformed(p));
         }
         a = step(a, table::kind(table, p));
         p += 1;
     }
-    Layout::Sound
+    Ok(())
 }

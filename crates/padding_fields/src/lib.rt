@@ -2,33 +2,32 @@
 #![tactic(auto)]
 
 ghost use Rattle.std.specs.Prelude.{◌≡◌};
+ghost use Rattle.std.specs.Option.{option_to_list};
 ghost use Rattle.rules.specs.Table.{decode};
 ghost use Rattle.rules.specs.PaddingFields.{not_after_array, pass9_at};
-ghost use Rattle.faults.specs.Notes.{findings};
 
-use faults::Finding;
-use rules::{Found, Target, codes};
+use rules::{Fault, Target, codes};
 
-fn not_after_array(table: &[u8], place: usize, found: Found) -> Finding
-    ensures { findings result ≡ not_after_array (decode table.now) place found }
+fn not_after_array(table: &[u8], place: usize, found: Option<usize>) -> Option<Fault>
+    ensures { option_to_list result ≡ not_after_array (decode table.now) place found }
 {
     let fault = faults::fault::single(codes::INVALID_PADDING_FIELD, records::at(table, place));
     match found {
-        Found::At(q) => {
+        Some(q) => {
             if table::kind(table, q) == kinds::ARRAY {
-                return Finding::None;
+                return None;
             }
-            Finding::One(fault)
+            Some(fault)
         }
-        Found::Nothing => Finding::One(fault),
+        None => Some(fault),
     }
 }
 
-pub fn at_place(table: &[u8], place: usize) -> Finding
-    ensures { findings result ≡ pass9_at (decode table.now) place }
+pub fn at_place(table: &[u8], place: usize) -> Option<Fault>
+    ensures { option_to_list result ≡ pass9_at (decode table.now) place }
 {
     if table::kind(table, place) != kinds::PADDING {
-        return Finding::None;
+        return None;
     }
     not_after_array(
         table,

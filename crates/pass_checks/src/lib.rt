@@ -17,15 +17,15 @@ pub fn scope_new(table: &[u8], buffer: &mut [u8]) -> Tally
     run(1, table, buffer)
 }
 
-// The answer of passes 3 to 9: the lowest that finds faults and their total, or none.
+// A pass that finds faults, and how many it finds.
 #[derive(Clone, Copy)]
-pub enum Checked {
-    Faulty(u8, usize),
-    Clean,
+pub struct Faulty {
+    pub pass: u8,
+    pub total: usize,
 }
 
 // Passes 3 to 9 in order, up to the first that finds faults. Only that one writes.
-pub fn run_later(table: &[u8], buffer: &mut [u8]) -> Checked
+pub fn run_later(table: &[u8], buffer: &mut [u8]) -> Result<(), Faulty>
     requires { length (decode table.now) ≤ 1600 }
     ensures { outcome result buffer.new ≡ later (decode table.now) buffer.old }
 {
@@ -33,9 +33,10 @@ pub fn run_later(table: &[u8], buffer: &mut [u8]) -> Checked
     while pass < 10 {
         let tally = run(pass, table, buffer);
         if 0 < tally.total {
-            return Checked::Faulty(pass, tally.total);
+            let total = tally.total;
+            return Err(Faulty { pass, total });
         }
         pass += 1;
     }
-    Checked::Clean
+    Ok(())
 }

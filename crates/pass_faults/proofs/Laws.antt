@@ -6,7 +6,8 @@ use mathlib.Core.Bool.{Bool, true, false}
 use native.Mathlib.Omega.{arith}
 use lib.ListN.{length}
 use lib.Dec.{eqb}
-use Rattle.std.specs.Prelude.{if◌then◌else◌}
+use Rattle.std.specs.Prelude.{if◌then◌else◌, Option}
+use Rattle.std.specs.Option.{option_to_list}
 use Rattle.rules.specs.Places.{each}
 use Rattle.rules.specs.Faults.{Log, log}
 use Rattle.rules.specs.Scopes.{pass1_at, pass1}
@@ -21,8 +22,7 @@ use Rattle.rules.specs.Replies.{later_faults}
 use Rattle.rules.specs.declared.Record.{Record}
 use Rattle.rules.specs.declared.Fault.{Fault}
 use Rattle.rules.specs.declared.Tally.{Tally}
-use Rattle.faults.specs.Notes.{findings, noted_all}
-use Rattle.faults.specs.declared.Finding.{Finding}
+use Rattle.faults.specs.Notes.{noted_all}
 use Rattle.faults.proofs.Laws.{noted-total, noted-then}
 use Rattle.pass_faults.specs.Passes.{pass_at, pass_faults}
 use Rattle.pass_faults.proofs.Passed.{each-passed}
@@ -47,14 +47,14 @@ pass-faults k rs =
     (each-if (eqb k 9) (pass9_at rs) _ n (each-passed _ 0 n (omega arith) (λ i u v. refl)))))))))
 
 -- the faults of a place, noted: one finding, or two
-module _ (t : Tally) (b : List ℕ) (r : Tally) (l : List ℕ) (x : Finding) (fs : List Fault) (e : log r l ≡ noted_all (log t b) (findings x)) (h : findings x ≡ fs) where
+module _ (t : Tally) (b : List ℕ) (r : Tally) (l : List ℕ) (x : Option Fault) (fs : List Fault) (e : log r l ≡ noted_all (log t b) (option_to_list x)) (h : option_to_list x ≡ fs) where
   pub one_more : r.total ≤ t.total + 1
   one_more = omega (arith, ap (λ (y : Log). y.tally.total) e, noted-total (log t b) x)
 
   pub noted-once : (log r l ≡ noted_all (log t b) fs) × (r.total ≤ t.total + 2)
   noted-once = (e ∙ ap (noted_all (log t b)) h, omega (arith, one_more))
 
-  pub noted-twice : (r' : Tally) (l' : List ℕ) (y : Finding) (gs : List Fault) → log r' l' ≡ noted_all (log r l) (findings y) → findings y ≡ gs
+  pub noted-twice : (r' : Tally) (l' : List ℕ) (y : Option Fault) (gs : List Fault) → log r' l' ≡ noted_all (log r l) (option_to_list y) → option_to_list y ≡ gs
       → (log r' l' ≡ noted_all (log t b) (fs ++ gs)) × (r'.total ≤ t.total + 2)
   noted-twice r' l' y gs e' h' =
       (noted-then (log t b) fs gs noted-once.0 (e' ∙ ap (noted_all (log r l)) h'), omega (arith, one_more, ap (λ (z : Log). z.tally.total) e', noted-total (log r l) y))

@@ -9,9 +9,8 @@ use native.Mathlib.Nat.{le_antisymm}
 use borrow.Author.Tests.{leb-true, eqb-true}
 use lib.Dec.{eqb, leb}
 use lib.ListN.{length}
-use Rattle.std.specs.Prelude.{if◌then◌else◌}
+use Rattle.std.specs.Prelude.{if◌then◌else◌, None}
 use Rattle.rules.specs.Places.{each, first}
-use Rattle.rules.specs.declared.Found.TheVariants.{Nothing}
 use Rattle.rules.specs.Table.{at}
 use Rattle.rules.specs.declared.Record.{Record}
 use Rattle.rules.specs.declared.Fault.{Fault}
@@ -22,7 +21,7 @@ use Rattle.pass_faults.specs.Passes.{pass_at}
 use Rattle.pass_faults.specs.Passed.{is_among, Passed}
 
 -- a kind whose bit is not set fails a test, if each of the kinds that pass it has its bit set
-module _ (kinds : ℕ) (b : ℕ → Bool) (bits : first (λ k. if is_among kinds k then false else b k) 0 64 ≡ Nothing) (low : (k : ℕ) → b k ≡ true → k < 64) (k : ℕ) (h : is_among kinds k ≡ false) where
+module _ (kinds : ℕ) (b : ℕ → Bool) (bits : first (λ k. if is_among kinds k then false else b k) 0 64 ≡ None) (low : (k : ℕ) → b k ≡ true → k < 64) (k : ℕ) (h : is_among kinds k ≡ false) where
   not-among : b k ≡ false
   not-among = go (b k) refl
     where
@@ -31,10 +30,10 @@ module _ (kinds : ℕ) (b : ℕ → Bool) (bits : first (λ k. if is_among kinds
       go false e = refl
 
 module _ (kinds : ℕ) (k : ℕ) (h : is_among kinds k ≡ false) where
-  pub not-between : (low high : ℕ) → high < 64 → first (λ i. if is_among kinds i then false else leb low i && leb i high) 0 64 ≡ Nothing → leb low k && leb k high ≡ false
+  pub not-between : (low high : ℕ) → high < 64 → first (λ i. if is_among kinds i then false else leb low i && leb i high) 0 64 ≡ None → leb low k && leb k high ≡ false
   not-between low high l bits = not-among kinds (λ i. leb low i && leb i high) bits (λ i e. omega (arith, leb-true i high (and-true (leb low i) (leb i high) e).1)) k h
 
-  pub not_equal : (n : ℕ) → n < 64 → first (λ i. if is_among kinds i then false else eqb i n) 0 64 ≡ Nothing → eqb k n ≡ false
+  pub not_equal : (n : ℕ) → n < 64 → first (λ i. if is_among kinds i then false else eqb i n) 0 64 ≡ None → eqb k n ≡ false
   not_equal n l bits = not-among kinds (λ i. eqb i n) bits (λ i e. omega (arith, eqb-true i n e)) k h
 
 -- what is listed place by place stays the same where nothing is listed

@@ -2,25 +2,25 @@
 #![tactic(auto)]
 
 ghost use Rattle.std.specs.Prelude.{◌≡◌, ◌⊎◌, List, [], false, ℕ, ◌+◌, ◌^◌, ◌<◌, ◌≤◌, length};
+ghost use Rattle.std.specs.Option.{option_to_list};
 ghost use Rattle.rules.specs.Table.{decode, at};
 ghost use Rattle.rules.specs.declared.Record.{Record};
 ghost use Rattle.rules.specs.Faults.{log, logged};
-ghost use Rattle.faults.specs.Notes.{findings, noted_all};
+ghost use Rattle.faults.specs.Notes.{noted_all};
 ghost use Rattle.pass_faults.specs.Passes.{pass_at, pass_faults};
 ghost use Rattle.pass_faults.specs.Known.{Known};
 ghost use Rattle.pass_faults.specs.Passed.{is_among, Passed};
 
-use faults::Finding;
 use field_identifiers::check_field_identifiers;
 use repeats::marks::Compared;
-use rules::Tally;
 use rules::limits::MOST_RECORDS;
+use rules::{Fault, Tally};
 use table::{NO_PLACE, REMAINDERS};
 
 // What a pass finds at a place, where it is at most one fault.
-fn finding(pass: u8, table: &[u8], marks: &[u8], starts: &[u16], place: usize) -> Finding
+fn finding(pass: u8, table: &[u8], marks: &[u8], starts: &[u16], place: usize) -> Option<Fault>
     requires { (pass ≡ 4 → ⊥) × (pass ≡ 5 → ⊥) × Known pass (decode table.now) marks.now [] starts.now }
-    ensures { findings result ≡ pass_at pass (decode table.now) place }
+    ensures { option_to_list result ≡ pass_at pass (decode table.now) place }
 {
     match pass {
         1 => scope::at_place(table, starts, place),
@@ -29,7 +29,7 @@ fn finding(pass: u8, table: &[u8], marks: &[u8], starts: &[u16], place: usize) -
         7 => payload_fields::at_place(table, marks, place),
         8 => array_fields::at_place(table, place),
         9 => padding_fields::at_place(table, place),
-        _ => Finding::None,
+        _ => None,
     }
 }
 

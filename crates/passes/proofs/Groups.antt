@@ -1,5 +1,6 @@
 -- In the listed table of an accepted one with unique names every group stands before the declaration that holds a field of it.
 -- Assumes nothing.
+use Rattle.std.proofs.Common.{Some}
 use mathlib.Core.Path.{◌≡◌, refl, sym, ◌∙◌, ap, subst}
 use mathlib.Core.Bool.{true, false}
 use mathlib.Core.List.{List, [], ◌∷◌, ◌++◌}
@@ -18,7 +19,6 @@ use Rattle.rules.specs.Places.{nearest, holds_at, decl_named, member_count}
 use Rattle.rules.specs.DeclIdentifiers.{decl_records, all_records, order, ordered}
 use Rattle.rules.specs.Ordering.{Declared, Named, UniqueNames, HeldBy, by_group, Listing, Accepts}
 use Rattle.rules.specs.declared.Record.{Record}
-use Rattle.rules.specs.declared.Found.TheVariants.{At}
 use Rattle.rules.specs.declared.Target.TheVariants.{Decl, DeclNamed}
 use Rattle.group_sizes.specs.GroupsFirst.{FoundBefore, GroupsFirst}
 use Rattle.table.proofs.Searches.{false-true, and-true, named-is-decl, first-only, nearest-is}
@@ -112,7 +112,7 @@ module _ (rs : List Record) where
         go i zero x y z = (i, x, z ∙ add-zero (offset l i))
         go i (suc j) x y z = false-true (sym (member-free i (suc j) x (omega arith) y) ∙ ap (λ (p : ℕ). is_decl (at os p).kind) (sym z) ∙ k)
 
-    named-place : (x k : ℕ) → k < length l → Named rs x (get_or l k 0) → decl_named os x ≡ At (offset l k)
+    named-place : (x k : ℕ) → k < length l → Named rs x (get_or l k 0) → decl_named os x ≡ Some (offset l k)
     unfolding decl_named os
     named-place x k h n =
         first-only (holds_at os (DeclNamed x)) (length os) (offset l k) (omega (arith, offset-in l k h, long k h))
@@ -124,7 +124,7 @@ module _ (rs : List Record) where
         let name : (at rs (get_or l w.0 0)).name ≡ x = ap (λ (r : Record). r.name) same ∙ eqb-true (at os i).name x y.1 in
         w.2 ∙ ap (offset l) (listing.once w.0 k w.1 h (u (get_or l w.0 0) (get_or l k 0) (declared-at w.0 w.1) n.0 (name ∙ sym n.1))))
 
-    nearest-decl : (p i j : ℕ) (x : i < length l) → 0 < j → j < length (decl_records rs (get_or l i 0)) → p ≡ offset l i + j → nearest (holds_at os Decl) p ≡ At (offset l i)
+    nearest-decl : (p i j : ℕ) (x : i < length l) → 0 < j → j < length (decl_records rs (get_or l i 0)) → p ≡ offset l i + j → nearest (holds_at os Decl) p ≡ Some (offset l i)
     nearest-decl p i j x z y e =
         nearest-is (holds_at os Decl) p (offset l i) (omega arith)
         (rw (own_at i x) (named-decl rs (get_or l i 0) (declared-at i x)))

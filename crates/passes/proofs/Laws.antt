@@ -1,4 +1,5 @@
 -- Laws of the passes in their order: what each row of the replies asks of the faults found. Assumes nothing.
+use Rattle.std.proofs.Common.{None, Option, Some, Result, Ok, Err}
 use Prim.Native.Nat.{ℕ, suc, ◌+◌, ◌*◌, ◌<◌, ◌≤◌}
 use mathlib.Core.Path.{◌≡◌, refl, sym, ap, ◌∙◌}
 use mathlib.Core.List.{List, [], ◌∷◌}
@@ -16,15 +17,12 @@ use Rattle.rules.specs.Replies.{Answer, numbered, answered, faults_of, finds_fau
 use Rattle.rules.specs.declared.Record.{Record}
 use Rattle.rules.specs.declared.Fault.{Fault}
 use Rattle.rules.specs.declared.Tally.{Tally}
-use Rattle.rules.specs.declared.Found.{Found}
-use Rattle.rules.specs.declared.Found.TheVariants.{At, Nothing}
 use Rattle.rules.specs.declared.Reply.{Reply}
 use Rattle.rules.specs.declared.Reply.TheVariants.{Faulty}
 use Rattle.table.proofs.Laws.{first-in}
 use Rattle.faults.proofs.Laws.{logged_none}
 use Rattle.pass_checks.specs.Later.{Outcome, outcome, checked_numbered, finds_later, by_later, later}
-use Rattle.pass_checks.specs.declared.Checked as passes
-use Rattle.pass_checks.specs.declared.Checked.TheVariants as checked
+use Rattle.pass_checks.specs.declared.Faulty as checks
 use Rattle.pass_checks.proofs.Laws.{lowest-later}
 use Rattle.decl_order.specs.Contract.{ListedAtStart, DeclIdentifiersChecked}
 use Rattle.group_sizes.specs.GroupsFirst.{GroupsFirst}
@@ -53,11 +51,11 @@ module _ (b : List ℕ) (fs : List Fault) {r : Tally} {l : List ℕ} (e : log r 
 
 -- ---- passes 1 and 2, and the listed table
 
-lowest-one : (g : ℕ → Bool) (a n : ℕ) → g a ≡ true → first g a (suc n) ≡ At a
+lowest-one : (g : ℕ → Bool) (a n : ℕ) → g a ≡ true → first g a (suc n) ≡ Some a
 unfolding first
 lowest-one g a n e = rw (first, e)
 
-lowest-two : (g : ℕ → Bool) (a n : ℕ) → g a ≡ false → g (a + 1) ≡ true → first g a (suc (suc n)) ≡ At (a + 1)
+lowest-two : (g : ℕ → Bool) (a n : ℕ) → g a ≡ false → g (a + 1) ≡ true → first g a (suc (suc n)) ≡ Some (a + 1)
 unfolding first
 lowest-two g a n e h = rw (first, e, first, h)
 
@@ -75,9 +73,9 @@ module _ (rs : List Record) (t f : List ℕ) where
     unfolding by_passes by_pass by_listed by_listed_pass faults_of
     clean-two h = ap (by_pass rs t f) (lowest-later rs (rw clean) (rw h)) ∙ same (first (finds_later (ordered rs)) 3 7) refl
       where
-        same : (x : Found) → first (finds_later (ordered rs)) 3 7 ≡ x → by_pass rs t f x ≡ by_listed_pass (ordered rs) t f x
-        same Nothing e = refl
-        same (At k) e = let z = first-in (finds_later (ordered rs)) 10 3 k e in let y = z.0 in rw (ne_eqb k 1 (λ w. omega arith), ne_eqb k 2 (λ w. omega arith))
+        same : (x : Option ℕ) → first (finds_later (ordered rs)) 3 7 ≡ x → by_pass rs t f x ≡ by_listed_pass (ordered rs) t f x
+        same None e = refl
+        same (Some k) e = let z = first-in (finds_later (ordered rs)) 10 3 k e in let y = z.0 in rw (ne_eqb k 1 (λ w. omega arith), ne_eqb k 2 (λ w. omega arith))
 
 -- ---- passes 3 to 9
 
@@ -85,23 +83,23 @@ module _ (rs : List Record) (t f : List ℕ) where
 abbrev with_table : List ℕ → Outcome → Answer
 with_table t o = record { reply = o.reply; table = t; faults = o.faults }
 
-module _ (ls : List Record) (b l t : List ℕ) {x : passes.Checked} (e : outcome x l ≡ later ls b) where
-  pub faulty-later : {k n : ℕ} → x ≡ checked.Faulty k n → answered (Faulty k n) t l ≡ by_listed ls t b
+module _ (ls : List Record) (b l t : List ℕ) {x : Result (Unit {0}) checks.Faulty} (e : outcome x l ≡ later ls b) where
+  pub faulty-later : {f : checks.Faulty} → x ≡ Err f → answered (Faulty f.pass f.total) t l ≡ by_listed ls t b
   unfolding later by_later by_listed by_listed_pass checked_numbered numbered
-  faulty-later {k} {n} h = go (first (finds_later ls) 3 7) (ap (λ (y : passes.Checked). outcome y l) (sym h) ∙ e)
+  faulty-later {f} h = go (first (finds_later ls) 3 7) (ap (λ (y : Result (Unit {0}) checks.Faulty). outcome y l) (sym h) ∙ e)
     where
-      go : (y : Found) → outcome (checked.Faulty k n) l ≡ by_later ls b y → answered (Faulty k n) t l ≡ by_listed_pass ls t b y
-      go (At m) z = ap (with_table t) z
-      go Nothing z = let w : ◌≡◌ {A = ℕ} 4 0 = ap (λ (o : Outcome). o.reply.row) z in absurd (omega arith)
+      go : (y : Option ℕ) → outcome (Err f) l ≡ by_later ls b y → answered (Faulty f.pass f.total) t l ≡ by_listed_pass ls t b y
+      go (Some m) z = ap (with_table t) z
+      go None z = let w : ◌≡◌ {A = ℕ} 4 0 = ap (λ (o : Outcome). o.reply.row) z in absurd (omega arith)
 
   -- none finds faults: what is answered for any fault buffer is the answer
-  pub clean-later : (r : Reply) {t' : List ℕ} → x ≡ checked.Clean → ((f : List ℕ) → answered r t' f ≡ by_size (inlined ls) t f) → answered r t' l ≡ by_listed ls t b
+  pub clean-later : (r : Reply) {t' : List ℕ} → x ≡ Ok tt → ((f : List ℕ) → answered r t' f ≡ by_size (inlined ls) t f) → answered r t' l ≡ by_listed ls t b
   unfolding later by_later by_listed by_listed_pass checked_numbered
-  clean-later r {t'} h w = go (first (finds_later ls) 3 7) (ap (λ (y : passes.Checked). outcome y l) (sym h) ∙ e)
+  clean-later r {t'} h w = go (first (finds_later ls) 3 7) (ap (λ (y : Result (Unit {0}) checks.Faulty). outcome y l) (sym h) ∙ e)
     where
-      go : (y : Found) → outcome checked.Clean l ≡ by_later ls b y → answered r t' l ≡ by_listed_pass ls t b y
-      go (At m) z = let v : ◌≡◌ {A = ℕ} 0 4 = ap (λ (o : Outcome). o.reply.row) z in absurd (omega arith)
-      go Nothing z = w l ∙ ap (by_size (inlined ls) t) (ap (λ (o : Outcome). o.faults) z)
+      go : (y : Option ℕ) → outcome (Ok tt) l ≡ by_later ls b y → answered r t' l ≡ by_listed_pass ls t b y
+      go (Some m) z = let v : ◌≡◌ {A = ℕ} 0 4 = ap (λ (o : Outcome). o.reply.row) z in absurd (omega arith)
+      go None z = w l ∙ ap (by_size (inlined ls) t) (ap (λ (o : Outcome). o.faults) z)
 
 -- ---- the table that pass 2 lists
 

@@ -8,7 +8,6 @@ ghost use Rattle.rules.specs.Replies.{answered, by_passes};
 ghost use Rattle.group_sizes.specs.GroupsFirst.{GroupsFirst};
 ghost use Rattle.passes.specs.Listed.{by_listed};
 
-use pass_checks::Checked;
 use rules::Reply;
 use rules::limits::RECORD_LENGTH;
 
@@ -18,8 +17,8 @@ fn check_listed(listed: &[u8], table: &mut [u8], faults: &mut [u8]) -> Reply
     ensures { answered result table.new faults.new ≡ by_listed (decode listed.now) table.old faults.old }
 {
     match pass_checks::run_later(listed, faults) {
-        Checked::Faulty(pass, total) => Reply::Faulty(pass, total),
-        Checked::Clean => accepted_table::write_listed(listed, table),
+        Err(faulty) => Reply::Faulty(faulty.pass, faulty.total),
+        Ok(()) => accepted_table::write_listed(listed, table),
     }
 }
 

@@ -1,4 +1,5 @@
 -- The declarations that lack no Payload or Body. Assumes nothing.
+use Rattle.std.proofs.Common.{None, Option, Some, ℕ}
 use Prim.Native.Nat.{ℕ, ◌%◌}
 use mathlib.Core.Path.{◌≡◌, refl}
 use mathlib.Core.Bool.{true}
@@ -10,8 +11,6 @@ use Rattle.rules.specs.Table.{at}
 use Rattle.rules.specs.Places.{first}
 use Rattle.rules.specs.PayloadFields.{has_payload, child_with_field, missing_payload}
 use Rattle.rules.specs.declared.Record.{Record}
-use Rattle.rules.specs.declared.Found.{Found}
-use Rattle.rules.specs.declared.Found.TheVariants.{At, Nothing}
 use Rattle.table.proofs.Searches.{first-nothing}
 use Rattle.payload_fields.specs.Parents.{Parents}
 
@@ -23,7 +22,7 @@ module _ (rs : List Record) where
       let m' : get_or marks ((at rs d).name % 4093) 1 ≡ 0 = rw (← e) m in
       rw (first-nothing (child_with_field rs d) 0 (length rs) (λ i l. w.none d m' i (omega arith)))
 
-  pub payload-missing : (d : ℕ) (f : Found) → has_payload rs d ≡ true → [] ≡ missing_payload rs d f
+  pub payload-missing : (d : ℕ) (f : Option ℕ) → has_payload rs d ≡ true → [] ≡ missing_payload rs d f
   unfolding missing_payload when
-  payload-missing d (At c) e = rw e
-  payload-missing d Nothing e = refl
+  payload-missing d (Some c) e = rw e
+  payload-missing d None e = refl

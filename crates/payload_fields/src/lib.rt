@@ -4,31 +4,31 @@
 pub mod parents;
 
 ghost use Rattle.std.specs.Prelude.{◌≡◌, length};
+ghost use Rattle.std.specs.Option.{option_to_list};
 ghost use Rattle.rules.specs.Table.{decode};
 ghost use Rattle.rules.specs.Places.{first, first_within};
 ghost use Rattle.rules.specs.PayloadFields.{second_payload, has_field, child_with_field, missing_payload, pass7_at};
 ghost use Rattle.rules.specs.declared.Target.TheVariants.{PayloadOrDecl};
-ghost use Rattle.faults.specs.Notes.{findings};
 ghost use Rattle.payload_fields.specs.Parents.{Parents};
 
-use faults::{Finding, when};
-use rules::{Found, Target, codes};
+use faults::when;
+use rules::{Fault, Target, codes};
 use search::members::has_member;
 use table::DIVISOR;
 
 // The first Payload or Body of the declaration that `place` stands in.
-fn first_payload(table: &[u8], place: usize) -> Found
+fn first_payload(table: &[u8], place: usize) -> Option<usize>
     ensures { result ≡ first_within (decode table.now) PayloadOrDecl place }
 {
     search::first_within(table, Target::PayloadOrDecl, place)
 }
 
 // 36 with the first one as secondary.
-fn second_payload(table: &[u8], place: usize, found: Found) -> Finding
-    ensures { findings result ≡ second_payload (decode table.now) place found }
+fn second_payload(table: &[u8], place: usize, found: Option<usize>) -> Option<Fault>
+    ensures { option_to_list result ≡ second_payload (decode table.now) place found }
 {
     match found {
-        Found::At(q) => when(
+        Some(q) => when(
             q < place,
             faults::fault::double(
                 codes::DUPLICATE_PAYLOAD_FIELD,
@@ -36,7 +36,7 @@ fn second_payload(table: &[u8], place: usize, found: Found) -> Finding
                 records::at(table, q),
             ),
         ),
-        Found::Nothing => Finding::None,
+        None => None,
     }
 }
 
@@ -59,44 +59,44 @@ fn is_child_with_field(table: &[u8], decl: usize, child: usize) -> bool
 }
 
 // The first child of the declaration at `decl` that has a field.
-fn child_with_field(table: &[u8], decl: usize) -> Found
+fn child_with_field(table: &[u8], decl: usize) -> Option<usize>
     ensures { result ≡ first (child_with_field (decode table.now) decl) 0 (length (decode table.now)) }
 {
     let n = table::count(table);
     let mut c = 0;
     while c < n {
         if is_child_with_field(table, decl, c) {
-            return Found::At(c);
+            return Some(c);
         }
         c += 1;
     }
-    Found::Nothing
+    None
 }
 
 // 37 if there is no Payload or Body and some child has a field.
-fn missing_payload(table: &[u8], parents: &[u8], decl: usize) -> Finding
+fn missing_payload(table: &[u8], parents: &[u8], decl: usize) -> Option<Fault>
     requires { Parents (decode table.now) parents.now }
-    ensures { findings result ≡ missing_payload (decode table.now) decl (first (child_with_field (decode table.now) decl) 0 (length (decode table.now))) }
+    ensures { option_to_list result ≡ missing_payload (decode table.now) decl (first (child_with_field (decode table.now) decl) 0 (length (decode table.now))) }
 {
     let h = (table::name(table, decl) % DIVISOR) as usize;
     if repeats::marks::mark_at(parents, h) == 0 {
-        return Finding::None;
+        return None;
     }
     if has_member(table, Target::PayloadOrDecl, decl) {
-        return Finding::None;
+        return None;
     }
     match child_with_field(table, decl) {
-        Found::At(_) => Finding::One(faults::fault::single(
+        Some(_) => Some(faults::fault::single(
             codes::MISSING_PAYLOAD_FIELD,
             records::at(table, decl),
         )),
-        Found::Nothing => Finding::None,
+        None => None,
     }
 }
 
-pub fn at_place(table: &[u8], parents: &[u8], place: usize) -> Finding
+pub fn at_place(table: &[u8], parents: &[u8], place: usize) -> Option<Fault>
     requires { Parents (decode table.now) parents.now }
-    ensures { findings result ≡ pass7_at (decode table.now) place }
+    ensures { option_to_list result ≡ pass7_at (decode table.now) place }
 {
     let k = table::kind(table, place);
     if kinds::is_payload(k) {
@@ -105,5 +105,5 @@ pub fn at_place(table: &[u8], parents: &[u8], place: usize) -> Finding
     if kinds::is_named_decl(k) {
         return missing_payload(table, parents, place);
     }
-    Finding::None
+    None
 }

@@ -8,7 +8,7 @@ use lib.Dec.{ltb}
 use lib.ListN.{length, take, drop, length-append, length-drop}
 use lib.Seq.{take-append_seam}
 use borrow.Author.Tests.{ltb-false}
-use Rattle.std.specs.Prelude.{if◌then◌else◌}
+use Rattle.std.specs.Prelude.{if◌then◌else◌, None, Option, Some, Result, Ok, Err}
 use Rattle.rules.specs.Bytes.{written}
 use Rattle.rules.specs.Table.{record_length, most_records, decode, encode}
 use Rattle.rules.specs.Layouts.{layout}
@@ -19,10 +19,8 @@ use Rattle.rules.specs.DesugarFlags.{desugared, first_loose}
 use Rattle.rules.specs.Replies.{Answer, answered, numbered, finds_faults, fitted, by_loose, by_unfit, by_size, by_pass, by_passes, by_layout, answer}
 use Rattle.rules.specs.declared.Record.{Record}
 use Rattle.rules.specs.declared.Inlined.{Inlined}
-use Rattle.rules.specs.declared.Found.{Found}
-use Rattle.rules.specs.declared.Found.TheVariants.{At, Nothing}
-use Rattle.rules.specs.declared.Layout.{Layout}
-use Rattle.rules.specs.declared.Layout.TheVariants as layouts
+use Rattle.rules.specs.declared.LayoutError.{LayoutError}
+use Rattle.rules.specs.declared.LayoutError.TheVariants as layouts
 use Rattle.rules.specs.declared.Reply.TheVariants.{Swollen, Overlisted, NoRoom, Accepted}
 use Rattle.printed.specs.Whole.{records_behind, Whole}
 
@@ -52,29 +50,29 @@ fitted-whole dr t f =
     λ e. omega (arith, ltb-false (length t) n e, (written-long t (encode dr)).1)
 
 -- no records stand behind the other replies
-loose-whole : (rs : List Record) (t f : List ℕ) (x : Found) → Whole (by_loose rs t f x)
+loose-whole : (rs : List Record) (t f : List ℕ) (x : Option ℕ) → Whole (by_loose rs t f x)
 unfolding by_loose numbered records_behind
-loose-whole rs t f (At q) = omega arith
-loose-whole rs t f Nothing = fitted-whole (desugared rs) t f
+loose-whole rs t f (Some q) = omega arith
+loose-whole rs t f None = fitted-whole (desugared rs) t f
 
-unfit-whole : (xs : List Inlined) (t f : List ℕ) (x : Found) → Whole (by_unfit xs t f x)
+unfit-whole : (xs : List Inlined) (t f : List ℕ) (x : Option ℕ) → Whole (by_unfit xs t f x)
 unfolding by_unfit numbered records_behind
-unfit-whole xs t f (At i) = omega arith
-unfit-whole xs t f Nothing = loose-whole (map record_of xs) t f (first_loose (map record_of xs))
+unfit-whole xs t f (Some i) = omega arith
+unfit-whole xs t f None = loose-whole (map record_of xs) t f (first_loose (map record_of xs))
 
-pass-whole : (rs : List Record) (t f : List ℕ) (x : Found) → Whole (by_pass rs t f x)
+pass-whole : (rs : List Record) (t f : List ℕ) (x : Option ℕ) → Whole (by_pass rs t f x)
 unfolding by_pass by_size numbered records_behind
-pass-whole rs t f (At k) = omega arith
-pass-whole rs t f Nothing =
+pass-whole rs t f (Some k) = omega arith
+pass-whole rs t f None =
     let xs : List Inlined = inlined (ordered rs) in
     choice (ltb most_records (length xs)) (answered Swollen t f) (by_unfit xs t f (first_unfit xs)) (omega arith) λ _. unfit-whole xs t f (first_unfit xs)
 
-layout-whole : (i t f : List ℕ) (x : Layout) → Whole (by_layout i t f x)
+layout-whole : (i t f : List ℕ) (x : Result (Unit {0}) LayoutError) → Whole (by_layout i t f x)
 unfolding by_layout by_passes numbered records_behind
-layout-whole i t f layouts.Uneven = omega arith
-layout-whole i t f layouts.TooLong = omega arith
-layout-whole i t f (layouts.Malformed p) = omega arith
-layout-whole i t f layouts.Sound = pass-whole (decode i) t f (first (finds_faults (decode i)) 1 9)
+layout-whole i t f (Err layouts.Uneven) = omega arith
+layout-whole i t f (Err layouts.TooLong) = omega arith
+layout-whole i t f (Err (layouts.Malformed p)) = omega arith
+layout-whole i t f (Ok _) = pass-whole (decode i) t f (first (finds_faults (decode i)) 1 9)
 
 pub answer-whole : (i t f : List ℕ) → Whole (answer i t f)
 unfolding answer

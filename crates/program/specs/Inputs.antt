@@ -1,7 +1,5 @@
 -- Bytes that stand for an input: the input itself, or, if it is long, others that get the same reply.
 use Rattle.std.specs.Prelude.{◌≡◌, List, ℕ, ◌+◌, ◌-◌, ◌%◌, ◌≤◌, leb, length, if◌then◌else◌}
-use Rattle.program.specs.declared.input.Reading.{Reading}
-use Rattle.program.specs.declared.input.Reading.TheVariants.{End, Failed}
 
 -- a length with the same remainder, and above 64,000 like it
 abbrev pub short_length : ℕ → ℕ
@@ -11,8 +9,3 @@ short_length n = if leb n 64040 then n else 64001 + (n - 64001) % 40
 pub record StandsFor (i j : List ℕ) : Type 0 where
   pub same : length i ≤ 64040 → j ≡ i
   pub long : length j ≡ short_length (length i)
-
--- what was read has room in the input's buffer
-abbrev pub ReadingFits : Reading → Type 0
-ReadingFits (End n) = n ≤ 64040
-ReadingFits (Failed e) = Unit {0}

@@ -1,16 +1,10 @@
 // Standard input, read to its end into a buffer: a long one is shortened to a length that gets the same reply.
-ghost use Rattle.std.specs.Prelude.{◌≡◌, List, ◌++◌, ℕ, ◌+◌, ◌≤◌, length, take};
-ghost use Rattle.program.specs.Inputs.{short_length, StandsFor, ReadingFits};
+ghost use Rattle.std.specs.Prelude.{◌≡◌, List, ◌++◌, ℕ, ◌+◌, ◌≤◌, IfOk, length, take};
+ghost use Rattle.program.specs.Inputs.{short_length, StandsFor};
 
 use rules::limits::{RECORD_LENGTH, TABLE_LENGTH};
-use std::io::{Error, ErrorKind, Read};
-
-// The input read, as the number of bytes that stand for it, or why a read failed.
-#[derive(Drop)]
-pub enum Reading {
-    End(usize),
-    Failed(Error),
-}
+use std::io;
+use std::io::{ErrorKind, Read};
 
 // Room for the longest table and for each remainder of a length above it.
 pub const INPUT_LENGTH: usize = TABLE_LENGTH + RECORD_LENGTH;
@@ -51,18 +45,19 @@ fn append_input(input: &mut [u8], total: usize, next: &[u8]) -> usize
     short_length(total + n)
 }
 
-// Reads to the reader's end. The turns are bounded by a number that no run uses up.
-pub fn read_all<R: Read>(reader: &mut R, input: &mut [u8], chunk: &mut [u8]) -> Reading
+// Reads to the reader's end. Returns how many bytes at the start of the input stand for what was read. The turns are bounded by a number
+// that no run uses up.
+pub fn read_all<R: Read>(reader: &mut R, input: &mut [u8], chunk: &mut [u8]) -> io::Result<usize>
     requires { (64040 ≤ length input.old) × (length chunk.old ≤ 65536) }
-    ensures { ReadingFits result }
+    ensures { IfOk result (λ n. n ≤ 64040) }
 {
     let mut total = 0;
     for _ in 0..u64::MAX {
-        match reader.read(chunk) {
-            Ok(0) => return Reading::End(total),
-            Ok(n) => total = append_input(input, total, &chunk[..n]),
-            Err(e) => return Reading::Failed(e),
+        let n = reader.read(chunk)?;
+        if n == 0 {
+            return Ok(total);
         }
+        total = append_input(input, total, &chunk[..n]);
     }
-    Reading::Failed(Error::from(ErrorKind::TimedOut))
+    Err(io::Error::from(ErrorKind::TimedOut))
 }

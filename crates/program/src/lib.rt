@@ -8,7 +8,7 @@ ghost use Rattle.rules.specs.Replies.{answer};
 ghost use Rattle.rules.specs.Printed.{printed, program};
 ghost use Rattle.printed_text.specs.TextAppended.{TextBegins};
 
-use input::{INPUT_LENGTH, Reading};
+use input::INPUT_LENGTH;
 use rules::limits::TABLE_LENGTH;
 use std::io::{Eprint, Error, Input, Print};
 
@@ -77,10 +77,10 @@ pub fn run<R: Input + Print + Eprint>(rt: &R) {
     let mut chunk = chunk_buffer();
     let mut reader = rt.reader();
     match input::read_all(&mut reader, &mut input, &mut chunk) {
-        Reading::End(n) => {
+        Ok(n) => {
             let mut text = text_buffer();
             print(rt, &input[..n], &mut text);
         }
-        Reading::Failed(e) => fail(rt, "standard input", e),
+        Err(e) => fail(rt, "standard input", e),
     }
 }

@@ -1,4 +1,5 @@
 -- Where nothing is found there is no fault. Assumes nothing.
+use Rattle.std.proofs.Common.{None, Option, Some, ℕ}
 use Prim.Native.Nat.{ℕ}
 use mathlib.Core.Path.{◌≡◌, refl, sym}
 use mathlib.Core.List.{List, []}
@@ -9,19 +10,17 @@ use Rattle.rules.specs.Places.{found_inside}
 use Rattle.rules.specs.Faults.{repeated}
 use Rattle.rules.specs.EnumDeclarations.{again}
 use Rattle.rules.specs.declared.Record.{Record}
-use Rattle.rules.specs.declared.Found.{Found}
-use Rattle.rules.specs.declared.Found.TheVariants.{At, Nothing}
 use Rattle.table.proofs.Searches.{false-true}
 use Rattle.repeats.specs.Marks.{target_of, has_earlier}
 use Rattle.repeats.specs.declared.marks.Compared.{Compared}
 
 -- a search that finds nothing in the declaration
-none_found : (code : ℕ) (rs : List Record) (p : ℕ) (x : Found) → found_inside rs x ≡ false → [] ≡ repeated code rs p x
+none_found : (code : ℕ) (rs : List Record) (p : ℕ) (x : Option ℕ) → found_inside rs x ≡ false → [] ≡ repeated code rs p x
 unfolding repeated found_inside
-none_found code rs p Nothing e = refl
-none_found code rs p (At q) e = go (is_decl (at rs q).kind) refl
+none_found code rs p None e = refl
+none_found code rs p (Some q) e = go (is_decl (at rs q).kind) refl
   where
-    go : (b : Bool) → is_decl (at rs q).kind ≡ b → [] ≡ repeated code rs p (At q)
+    go : (b : Bool) → is_decl (at rs q).kind ≡ b → [] ≡ repeated code rs p (Some q)
     go true d = rw d
     go false d = false-true (sym (rw (found_inside, d) at e))
 

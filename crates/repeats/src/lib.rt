@@ -4,35 +4,34 @@
 pub mod marks;
 
 ghost use Rattle.std.specs.Prelude.{◌≡◌};
+ghost use Rattle.std.specs.Option.{option_to_list};
 ghost use Rattle.rules.specs.Table.{decode, at};
 ghost use Rattle.rules.specs.Faults.{repeated};
 ghost use Rattle.rules.specs.EnumDeclarations.{again};
-ghost use Rattle.faults.specs.Notes.{findings};
 ghost use Rattle.repeats.specs.Marks.{compared_of, target_of, Marked};
 
-use faults::Finding;
 use marks::Compared;
-use rules::{Found, Target};
+use rules::{Fault, Target};
 
 // A fault at `place` that points at the earlier record that a search found, if it is no declaration.
-fn repeated(code: u16, table: &[u8], place: usize, found: Found) -> Finding
-    ensures { findings result ≡ repeated code (decode table.now) place found }
+fn repeated(code: u16, table: &[u8], place: usize, found: Option<usize>) -> Option<Fault>
+    ensures { option_to_list result ≡ repeated code (decode table.now) place found }
 {
     match found {
-        Found::At(q) => {
+        Some(q) => {
             let s = records::at(table, q);
             if kinds::is_decl(s.kind) {
-                return Finding::None;
+                return None;
             }
-            Finding::One(faults::fault::double(code, records::at(table, place), s))
+            Some(faults::fault::double(code, records::at(table, place), s))
         }
-        Found::Nothing => Finding::None,
+        None => None,
     }
 }
 
 // A fault at `place` that points at the nearest earlier record of its declaration that is what `target` looks for.
-pub fn again(code: u16, table: &[u8], target: Target, place: usize) -> Finding
-    ensures { findings result ≡ again code (decode table.now) target place }
+pub fn again(code: u16, table: &[u8], target: Target, place: usize) -> Option<Fault>
+    ensures { option_to_list result ≡ again code (decode table.now) target place }
 {
     repeated(code, table, place, search::nearest(table, target, place))
 }
@@ -51,12 +50,18 @@ fn target_of(what: Compared, table: &[u8], place: usize) -> Target
 }
 
 // As `again`, for what is compared of the record at `place`, without a search where the mark is 0.
-pub fn again_marked(code: u16, table: &[u8], what: Compared, place: usize, marks: &[u8]) -> Finding
+pub fn again_marked(
+    code: u16,
+    table: &[u8],
+    what: Compared,
+    place: usize,
+    marks: &[u8],
+) -> Option<Fault>
     requires { Marked (decode table.now) what marks.now }
-    ensures { findings result ≡ again code (decode table.now) (target_of what (compared_of what (at (decode table.now) place))) place }
+    ensures { option_to_list result ≡ again code (decode table.now) (target_of what (compared_of what (at (decode table.now) place))) place }
 {
     if marks::mark_at(marks, place) == 0 {
-        return Finding::None;
+        return None;
     }
     again(code, table, target_of(what, table, place), place)
 }

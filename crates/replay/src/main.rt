@@ -1,22 +1,20 @@
 // Replays stored tables through parts of the analyzer: a line for each case says what the part answered.
 #![tactic(auto)]
 
-use pass_checks::Checked;
-use replay_cases::Next;
 use rules::limits::{MOST_RECORDS, RECORD_LENGTH, TABLE_LENGTH};
-use rules::{Layout, Reply, Tally};
+use rules::{LayoutError, Reply, Tally};
 use std::io::{Input, Print, Read};
 
 // The row of the layout's reply, 0 for a sound layout, and the place.
-fn print_layout<R: Print>(rt: &R, layout: Layout) {
+fn print_layout<R: Print>(rt: &R, layout: Result<(), LayoutError>) {
     match layout {
-        Layout::Uneven => replay_cases::print(rt, 1, b'\n'),
-        Layout::TooLong => replay_cases::print(rt, 2, b'\n'),
-        Layout::Malformed(place) => {
+        Err(LayoutError::Uneven) => replay_cases::print(rt, 1, b'\n'),
+        Err(LayoutError::TooLong) => replay_cases::print(rt, 2, b'\n'),
+        Err(LayoutError::Malformed(place)) => {
             replay_cases::print(rt, 3, b' ');
             replay_cases::print(rt, place as u64, b'\n');
         }
-        Layout::Sound => replay_cases::print(rt, 0, b'\n'),
+        Ok(()) => replay_cases::print(rt, 0, b'\n'),
     }
 }
 
@@ -65,15 +63,16 @@ fn print_later<R: Print>(rt: &R, listed: &[u8], faults: &mut [u8]) {
         return;
     }
     match pass_checks::run_later(listed, faults) {
-        Checked::Faulty(pass, total) => {
-            replay_cases::print(rt, pass as u64, b' ');
+        Err(faulty) => {
+            let total = faulty.total;
+            replay_cases::print(rt, faulty.pass as u64, b' ');
             let tally = Tally {
                 kept: kept_faults(total, faults.len()),
                 total,
             };
             print_faults(rt, tally, faults, b'\n');
         }
-        Checked::Clean => {
+        Ok(()) => {
             replay_cases::print(rt, 0, b' ');
             print_faults(rt, faults::no_faults(), faults, b'\n');
         }
@@ -150,7 +149,7 @@ fn one_case<R: Print, S: Read>(
     out: &mut [u8],
 ) -> bool {
     match replay_cases::next_case(reader, input) {
-        Next::Read(case) => {
+        Some(case) => {
             let size = case.input;
             let room = case.faults;
             let table = case.table;
@@ -170,7 +169,7 @@ fn one_case<R: Print, S: Read>(
             print_part(rt, case.part, &input[..size], &mut faults[..room], out);
             true
         }
-        Next::End => false,
+        None => false,
     }
 }
 

@@ -5,7 +5,7 @@
 
 pub mod buffers;
 
-ghost use Rattle.std.specs.Prelude.{◌<◌, length};
+ghost use Rattle.std.specs.Prelude.{◌<◌, IfSome, length};
 ghost use Rattle.replay_cases.specs.Cases.{CaseFits};
 
 use rules::limits::TABLE_LENGTH;
@@ -20,32 +20,26 @@ pub struct Case {
     pub faults: usize,
 }
 
-// A case whose input stands at the start of the buffer, or the end of the stored cases.
-#[derive(Clone, Copy)]
-pub enum Next {
-    Read(Case),
-    End,
-}
-
-// Reads the next case. A case that is cut short or too long for the buffers ends the replay, so that the output differs.
-pub fn next_case<R: Read>(reader: &mut R, input: &mut [u8]) -> Next
-    ensures { CaseFits (length input.new) result }
+// Reads the next case, whose input then stands at the start of the buffer; None at the end of the stored cases. A case that is cut short or
+// too long for the buffers ends the replay, so that the output differs.
+pub fn next_case<R: Read>(reader: &mut R, input: &mut [u8]) -> Option<Case>
+    ensures { IfSome result (CaseFits (length input.new)) }
 {
     let mut head = [0u8; 16];
     if reader.read_exact(&mut head).is_err() {
-        return Next::End;
+        return None;
     }
     let part = numbers::number4(&head, 0);
     let size = numbers::number4(&head, 4) as usize;
     let table = numbers::number4(&head, 8) as usize;
     let faults = numbers::number4(&head, 12) as usize;
     if input.len() < size || TABLE_LENGTH < table || TABLE_LENGTH < faults {
-        return Next::End;
+        return None;
     }
     if reader.read_exact(&mut input[..size]).is_err() {
-        return Next::End;
+        return None;
     }
-    Next::Read(Case {
+    Some(Case {
         part,
         input: size,
         table,

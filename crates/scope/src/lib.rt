@@ -2,27 +2,26 @@
 #![tactic(auto)]
 
 ghost use Rattle.std.specs.Prelude.{◌≡◌};
+ghost use Rattle.std.specs.Option.{option_to_list};
 ghost use Rattle.rules.specs.Table.{decode};
 ghost use Rattle.rules.specs.Scopes.{pass1_at};
-ghost use Rattle.faults.specs.Notes.{findings};
 ghost use Rattle.declarations.specs.Starts.{Starts};
 
-use faults::Finding;
-use rules::{Found, codes};
+use rules::{Fault, codes};
 
-pub fn at_place(table: &[u8], starts: &[u16], place: usize) -> Finding
+pub fn at_place(table: &[u8], starts: &[u16], place: usize) -> Option<Fault>
     requires { Starts (decode table.now) starts.now }
-    ensures { findings result ≡ pass1_at (decode table.now) place }
+    ensures { option_to_list result ≡ pass1_at (decode table.now) place }
 {
     if !kinds::is_named_decl(table::kind(table, place)) {
-        return Finding::None;
+        return None;
     }
     match declarations::earlier(table, starts, place) {
-        Found::At(q) => Finding::One(faults::fault::double(
+        Some(q) => Some(faults::fault::double(
             codes::DUPLICATE_DECL_IDENTIFIER,
             records::at(table, place),
             records::at(table, q),
         )),
-        Found::Nothing => Finding::None,
+        None => None,
     }
 }

@@ -8,45 +8,45 @@ ghost use Rattle.std.specs.Prelude.{◌≡◌};
 ghost use Rattle.rules.specs.Table.{decode};
 ghost use Rattle.rules.specs.Places.{nearest, holds_at, first_from, first_within};
 
-use rules::{Found, Target};
+use rules::Target;
 use targets::holds;
 
 // The nearest place below `place`.
-pub fn nearest(table: &[u8], target: Target, place: usize) -> Found
+pub fn nearest(table: &[u8], target: Target, place: usize) -> Option<usize>
     ensures { result ≡ nearest (holds_at (decode table.now) target) place }
 {
     let mut i = place;
     while 0 < i {
         let q = i - 1;
         if holds(table, target, q) {
-            return Found::At(q);
+            return Some(q);
         }
         i = q;
     }
-    Found::Nothing
+    None
 }
 
 // The first place from `from` on.
-pub fn first(table: &[u8], target: Target, from: usize) -> Found
+pub fn first(table: &[u8], target: Target, from: usize) -> Option<usize>
     ensures { result ≡ first_from (decode table.now) target from }
 {
     let n = table::count(table);
     let mut i = from;
     while i < n {
         if holds(table, target, i) {
-            return Found::At(i);
+            return Some(i);
         }
         i += 1;
     }
-    Found::Nothing
+    None
 }
 
 // The first place of the declaration that `place` stands in, or of what follows it.
-pub fn first_within(table: &[u8], target: Target, place: usize) -> Found
+pub fn first_within(table: &[u8], target: Target, place: usize) -> Option<usize>
     ensures { result ≡ first_within (decode table.now) target place }
 {
     match nearest(table, Target::Decl, place) {
-        Found::At(d) => first(table, target, d + 1),
-        Found::Nothing => Found::Nothing,
+        Some(d) => first(table, target, d + 1),
+        None => None,
     }
 }

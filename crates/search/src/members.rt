@@ -3,7 +3,7 @@ ghost use Rattle.std.specs.Prelude.{◌≡◌, ◌+◌, ◌<◌, ◌≤◌, leng
 ghost use Rattle.rules.specs.Table.{decode};
 ghost use Rattle.rules.specs.Places.{first_from, found_inside, member_count};
 
-use rules::{Found, Target};
+use rules::Target;
 
 // How many records the declaration at `decl` has behind its own, up to the next declaration.
 pub fn member_count(table: &[u8], decl: usize) -> usize
@@ -12,18 +12,18 @@ pub fn member_count(table: &[u8], decl: usize) -> usize
 {
     let a = decl + 1;
     match crate::first(table, Target::Decl, a) {
-        Found::At(e) => e - a,
-        Found::Nothing => table::count(table) - a,
+        Some(e) => e - a,
+        None => table::count(table) - a,
     }
 }
 
 // Whether a search found something that is no declaration.
-fn found_inside(table: &[u8], found: Found) -> bool
+fn found_inside(table: &[u8], found: Option<usize>) -> bool
     ensures { result ≡ found_inside (decode table.now) found }
 {
     match found {
-        Found::At(q) => !kinds::is_decl(table::kind(table, q)),
-        Found::Nothing => false,
+        Some(q) => !kinds::is_decl(table::kind(table, q)),
+        None => false,
     }
 }
 

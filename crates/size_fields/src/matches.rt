@@ -4,7 +4,7 @@ ghost use Rattle.rules.specs.Table.{decode};
 ghost use Rattle.rules.specs.Places.{first_within};
 ghost use Rattle.size_fields.specs.SizeStarts.{target_at, SizeStarts};
 
-use rules::{Found, Target};
+use rules::Target;
 use table::NO_PLACE;
 
 // Where the search for what the record at `place` names may start: 65535 where it is not known.
@@ -18,7 +18,7 @@ fn start_at(starts: &[u16], place: usize) -> u16
 }
 
 // The first match of the record at `place` within its declaration, or what follows it.
-pub fn first_match(table: &[u8], starts: &[u16], target: Target, place: usize) -> Found
+pub fn first_match(table: &[u8], starts: &[u16], target: Target, place: usize) -> Option<usize>
     requires { SizeStarts (decode table.now) starts.now × (target ≡ target_at (decode table.now) place) }
     ensures { result ≡ first_within (decode table.now) target place }
 {

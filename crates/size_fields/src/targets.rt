@@ -1,15 +1,14 @@
 // Pass 5, `check_size_fields`: Size, Count and ElementSize fields that name no array.
 ghost use Rattle.std.specs.Prelude.{◌≡◌, ◌+◌, ◌<◌};
+ghost use Rattle.std.specs.Option.{option_to_list};
 ghost use Rattle.rules.specs.Table.{decode};
 ghost use Rattle.rules.specs.SizeFields.{matching, is_sized, misnamed, size_target};
-ghost use Rattle.faults.specs.Notes.{findings};
 ghost use Rattle.size_fields.specs.SizeStarts.{SizeStarts};
 
 use crate::duplicates::size_code;
 use crate::matches::first_match;
-use faults::Finding;
 use kinds::is_size;
-use rules::{Found, Target, codes};
+use rules::{Fault, Target, codes};
 
 // For Size a Payload also matches 1 and a Body 2.
 fn matching(kind: u8, name: u16) -> Target
@@ -33,35 +32,35 @@ const MISSING: u16 = codes::UNDECLARED_SIZE_IDENTIFIER - codes::DUPLICATE_SIZE_F
 const NO_ARRAY: u16 = codes::INVALID_SIZE_IDENTIFIER - codes::DUPLICATE_SIZE_FIELD;
 
 // Missing, or the first match no array.
-fn misnamed(code: u16, table: &[u8], place: usize, found: Found) -> Finding
+fn misnamed(code: u16, table: &[u8], place: usize, found: Option<usize>) -> Option<Fault>
     requires { code + 2 < 65536 }
-    ensures { findings result ≡ misnamed code (decode table.now) place found }
+    ensures { option_to_list result ≡ misnamed code (decode table.now) place found }
 {
     let r = records::at(table, place);
     match found {
-        Found::At(q) => {
+        Some(q) => {
             let s = records::at(table, q);
             let k = s.kind;
             if kinds::is_decl(k) {
-                return Finding::One(faults::fault::single(code + MISSING, r));
+                return Some(faults::fault::single(code + MISSING, r));
             }
             if is_sized(k) {
-                return Finding::None;
+                return None;
             }
-            Finding::One(faults::fault::double(code + NO_ARRAY, r, s))
+            Some(faults::fault::double(code + NO_ARRAY, r, s))
         }
-        Found::Nothing => Finding::One(faults::fault::single(code + MISSING, r)),
+        None => Some(faults::fault::single(code + MISSING, r)),
     }
 }
 
 // Then missing 24, 27, 30, or no array 25, 28, 31.
-pub fn size_target(table: &[u8], starts: &[u16], place: usize) -> Finding
+pub fn size_target(table: &[u8], starts: &[u16], place: usize) -> Option<Fault>
     requires { SizeStarts (decode table.now) starts.now }
-    ensures { findings result ≡ size_target (decode table.now) place }
+    ensures { option_to_list result ≡ size_target (decode table.now) place }
 {
     let r = records::at(table, place);
     if !is_size(r.kind) {
-        return Finding::None;
+        return None;
     }
     let found = first_match(table, starts, matching(r.kind, r.second), place);
     misnamed(size_code(r.kind), table, place, found)

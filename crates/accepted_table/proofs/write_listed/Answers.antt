@@ -2,10 +2,10 @@
 use Rattle.accepted_table.proofs.Laws.{wrote-done, wrote-again}
 use Rattle.accepted_table.proofs.write_listed.Goals as goal
 
-pub returns-in-Done : goal.returns-in-Done
-returns-in-Done c = wrote-done _ _ _ _ _ c.write_small.ensures _ c.in-Done.is
+pub returns-in-Some : goal.returns-in-Some
+returns-in-Some c = wrote-done _ _ _ _ _ c.write_small.ensures _ c.in-Some.is
 
-pub returns-in-Short : goal.returns-in-Short
-returns-in-Short c =
-    wrote-again _ _ _ _ _ c.write_small.ensures _ c.in-Short.is
-    c.write_large-in-Short.ensures
+pub returns-in-None : goal.returns-in-None
+returns-in-None c =
+    wrote-again _ _ _ _ _ c.write_small.ensures _ c.in-None.is
+    c.write_large-in-None.ensures

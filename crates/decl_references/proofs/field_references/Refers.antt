@@ -1,4 +1,5 @@
 -- What a field refers to, a case at a time. Assumes nothing.
+use Rattle.std.proofs.Common.{Option, ℕ}
 use Prim.Native.Nat.{ℕ}
 use mathlib.Core.Path.{◌≡◌}
 use mathlib.Core.Bool.{true, false, ◌&&◌}
@@ -10,7 +11,6 @@ use Rattle.rules.specs.Table.{at, bit1, named}
 use Rattle.rules.specs.Places.{decl_named}
 use Rattle.rules.specs.DeclIdentifiers.{group_reference, type_reference, field_reference}
 use Rattle.rules.specs.declared.Record.{Record}
-use Rattle.rules.specs.declared.Found.{Found}
 use Rattle.rules.specs.declared.Reference.TheVariants.{Nowhere}
 use Rattle.table.proofs.Searches.{and-true}
 
@@ -19,7 +19,7 @@ module _ (rs : List Record) (p : ℕ) {r : Record} (e : r ≡ at rs p) where
   unfolding field_reference
   field-nowhere g t a = rw (← e, ne_eqb r.kind kind.group_field g, ne_eqb r.kind kind.typedef t, a)
 
-  module _ {f : Found} (h : f ≡ decl_named rs r.second) where
+  module _ {f : Option ℕ} (h : f ≡ decl_named rs r.second) where
     pub field-group : r.kind ≡ kind.group_field → group_reference rs p f ≡ field_reference rs p
     unfolding field_reference
     field-group k = rw (← e, h, k)

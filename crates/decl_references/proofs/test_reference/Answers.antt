@@ -6,13 +6,13 @@ use Rattle.decl_references.proofs.test_reference.Goals as goal
 pub returns-then-kind-eq-PACKET : goal.returns-then-kind-eq-PACKET
 unfolding test_reference
 returns-then-kind-eq-PACKET c =
-    rw (c.in-At.is, ← c.kind.ensures, eq-eqb _ _ c.if-kind-eq-PACKET.true)
+    rw (c.in-Some.is, ← c.kind.ensures, eq-eqb _ _ c.if-kind-eq-PACKET.true)
 
 pub returns-else-kind-eq-PACKET : goal.returns-else-kind-eq-PACKET
 unfolding test_reference
 returns-else-kind-eq-PACKET c =
-    rw (c.in-At.is, ← c.kind.ensures, ne_eqb _ _ c.if-kind-eq-PACKET.false)
+    rw (c.in-Some.is, ← c.kind.ensures, ne_eqb _ _ c.if-kind-eq-PACKET.false)
 
-pub returns-in-Nothing : goal.returns-in-Nothing
+pub returns-in-None : goal.returns-in-None
 unfolding test_reference
-returns-in-Nothing c = rw c.in-Nothing.is
+returns-in-None c = rw c.in-None.is

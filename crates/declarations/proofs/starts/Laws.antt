@@ -1,4 +1,5 @@
 -- The starts of searches, a place at a time. Assumes nothing.
+use Rattle.std.proofs.Common.{None}
 use Prim.Native.Nat.{ℕ, ◌+◌, ◌%◌, ◌<◌, ◌≤◌}
 use mathlib.Core.Path.{◌≡◌, refl, sym, ap, ◌∙◌}
 use mathlib.Core.Bool.{false}
@@ -14,14 +15,13 @@ use Rattle.rules.specs.Kinds.{is_named_decl}
 use Rattle.rules.specs.Table.{at}
 use Rattle.rules.specs.Places.{holds_at, first_from}
 use Rattle.rules.specs.declared.Record.{Record}
-use Rattle.rules.specs.declared.Found.TheVariants.{Nothing}
 use Rattle.rules.specs.declared.Target.TheVariants.{DeclNamed}
 use Rattle.table.proofs.Laws.{up-miss, up-end}
 use Rattle.table.proofs.Searches.{and-false}
 use Rattle.declarations.specs.Starts.{StartsFrom, Starts}
 
 module _ (rs : List Record) where
-  past : (x p : ℕ) → length rs ≤ p → first_from rs (DeclNamed x) p ≡ Nothing
+  past : (x p : ℕ) → length rs ≤ p → first_from rs (DeclNamed x) p ≡ None
   past x p h = sym (up-end (holds_at rs (DeclNamed x)) p (length rs) p refl h)
 
   -- no starts: every search starts at place 0

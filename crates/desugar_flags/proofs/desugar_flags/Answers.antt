@@ -11,10 +11,10 @@ pub fitted-requires : goal.fitted-requires
 fitted-requires c =
     (c.requires, c.total-n.ensures.0, c.total-n.ensures.1)
 
-pub returns-in-At : goal.returns-in-At
-returns-in-At c =
-    reply-loose _ _ c.find_loose.ensures c.in-At.is (c.at-field.ensures ∙ rw c.place_before.ensures)
+pub returns-in-Some : goal.returns-in-Some
+returns-in-Some c =
+    reply-loose _ _ c.find_loose.ensures c.in-Some.is (c.at-field.ensures ∙ rw c.place_before.ensures)
 
-pub returns-in-Nothing : goal.returns-in-Nothing
-returns-in-Nothing c =
-    λ f. c.fitted.ensures f ∙ reply-fitted _ _ c.find_loose.ensures c.in-Nothing.is f
+pub returns-in-None : goal.returns-in-None
+returns-in-None c =
+    λ f. c.fitted.ensures f ∙ reply-fitted _ _ c.find_loose.ensures c.in-None.is f

@@ -2,11 +2,11 @@
 use Rattle.rules.specs.EnumDeclarations.{range_found}
 use Rattle.enum_tags.proofs.range_found.Goals as goal
 
-pub returns-in-At : goal.returns-in-At
+pub returns-in-Some : goal.returns-in-Some
 unfolding range_found
-returns-in-At c =
-    rw c.in-At.is c.at.ensures
+returns-in-Some c =
+    rw c.in-Some.is c.at.ensures
 
-pub returns-in-Nothing : goal.returns-in-Nothing
+pub returns-in-None : goal.returns-in-None
 unfolding range_found
-returns-in-Nothing c = rw c.in-Nothing.is
+returns-in-None c = rw c.in-None.is

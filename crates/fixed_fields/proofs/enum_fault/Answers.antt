@@ -18,22 +18,22 @@ tagged rs x d b e = sym e
 pub returns-then-e-ne-ENUM : goal.returns-then-e-ne-ENUM
 unfolding enum_fault
 returns-then-e-ne-ENUM c =
-    rw (c.double.ensures, c.in-At.is, ← c.at-e.ensures, ne_eqb _ _ c.if-e-ne-ENUM.true, ← c.at-r.ensures)
+    rw (c.double.ensures, c.in-Some.is, ← c.at-e.ensures, ne_eqb _ _ c.if-e-ne-ENUM.true, ← c.at-r.ensures)
 
 -- a tag of the enum
 pub returns-then-has_member : goal.returns-then-has_member
 unfolding enum_fault
 returns-then-has_member c =
-    rw (c.in-At.is, ← c.at-e.ensures, eq-eqb _ _ c.if-e-ne-ENUM.false, ← c.at-r.ensures, tagged _ _ _ _ c.has_member.ensures ∙ c.if-has_member.true)
+    rw (c.in-Some.is, ← c.at-e.ensures, eq-eqb _ _ c.if-e-ne-ENUM.false, ← c.at-r.ensures, tagged _ _ _ _ c.has_member.ensures ∙ c.if-has_member.true)
 
 -- a missing tag
 pub returns-else-has_member : goal.returns-else-has_member
 unfolding enum_fault
 returns-else-has_member c =
-    rw (c.double-in-At.ensures, c.in-At.is, ← c.at-e.ensures, eq-eqb _ _ c.if-e-ne-ENUM.false, ← c.at-r.ensures, tagged _ _ _ _ c.has_member.ensures ∙ c.if-has_member.false)
+    rw (c.double-in-Some.ensures, c.in-Some.is, ← c.at-e.ensures, eq-eqb _ _ c.if-e-ne-ENUM.false, ← c.at-r.ensures, tagged _ _ _ _ c.has_member.ensures ∙ c.if-has_member.false)
 
 -- a missing enum
-pub returns-in-Nothing : goal.returns-in-Nothing
+pub returns-in-None : goal.returns-in-None
 unfolding enum_fault
-returns-in-Nothing c =
-    rw (c.single.ensures, c.in-Nothing.is, ← c.at-r.ensures)
+returns-in-None c =
+    rw (c.single.ensures, c.in-None.is, ← c.at-r.ensures)

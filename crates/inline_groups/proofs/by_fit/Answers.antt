@@ -2,10 +2,10 @@
 use Rattle.inline_groups.specs.Inlinings.{by_fit}
 use Rattle.inline_groups.proofs.by_fit.Goals as goal
 
-pub returns-in-All : goal.returns-in-All
+pub returns-in-None : goal.returns-in-None
 unfolding by_fit
-returns-in-All c = rw c.in-All.is
+returns-in-None c = rw c.in-None.is
 
-pub returns-in-Unfit : goal.returns-in-Unfit
+pub returns-in-Some : goal.returns-in-Some
 unfolding by_fit
-returns-in-Unfit c = rw c.in-Unfit.is
+returns-in-Some c = rw c.in-Some.is

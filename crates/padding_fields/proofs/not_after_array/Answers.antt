@@ -6,14 +6,14 @@ use Rattle.padding_fields.proofs.not_after_array.Goals as goal
 pub returns-then-kind-eq-ARRAY : goal.returns-then-kind-eq-ARRAY
 unfolding not_after_array
 returns-then-kind-eq-ARRAY c =
-    rw (c.in-At.is, ← c.kind.ensures, eq-eqb _ 30 c.if-kind-eq-ARRAY.true)
+    rw (c.in-Some.is, ← c.kind.ensures, eq-eqb _ 30 c.if-kind-eq-ARRAY.true)
 
 pub returns-else-kind-eq-ARRAY : goal.returns-else-kind-eq-ARRAY
 unfolding not_after_array
 returns-else-kind-eq-ARRAY c =
-    rw (c.single-fault.ensures, c.at.ensures, c.in-At.is, ← c.kind.ensures, ne_eqb _ 30 c.if-kind-eq-ARRAY.false)
+    rw (c.single-fault.ensures, c.at.ensures, c.in-Some.is, ← c.kind.ensures, ne_eqb _ 30 c.if-kind-eq-ARRAY.false)
 
-pub returns-in-Nothing : goal.returns-in-Nothing
+pub returns-in-None : goal.returns-in-None
 unfolding not_after_array
-returns-in-Nothing c =
-    rw (c.single-fault.ensures, c.at.ensures, c.in-Nothing.is)
+returns-in-None c =
+    rw (c.single-fault.ensures, c.at.ensures, c.in-None.is)

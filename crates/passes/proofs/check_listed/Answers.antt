@@ -3,12 +3,12 @@ use Rattle.rules.specs.Table.{decode}
 use Rattle.passes.proofs.Laws.{faulty-later, clean-later}
 use Rattle.passes.proofs.check_listed.Goals as goal
 
-pub returns-in-Faulty : goal.returns-in-Faulty
-returns-in-Faulty c =
+pub returns-in-Err : goal.returns-in-Err
+returns-in-Err c =
     faulty-later (decode c.args.listed.now) c.args.faults.now _ c.args.table.now c.run_later.ensures
-    c.in-Faulty.is
+    c.in-Err.is
 
-pub returns-in-Clean : goal.returns-in-Clean
-returns-in-Clean c =
+pub returns-in-Ok : goal.returns-in-Ok
+returns-in-Ok c =
     clean-later (decode c.args.listed.now) c.args.faults.now _ c.args.table.now c.run_later.ensures
-    c.write_listed.result c.in-Clean.is c.write_listed.ensures
+    c.write_listed.result c.in-Ok.is c.write_listed.ensures

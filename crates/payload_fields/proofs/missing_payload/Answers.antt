@@ -12,11 +12,11 @@ returns-then-mark_at-eq0 c =
 pub returns-then-has_member : goal.returns-then-has_member
 returns-then-has_member c = payload-missing _ _ _ (sym c.has_member.ensures ∙ c.if-has_member.true)
 
-pub returns-in-At : goal.returns-in-At
+pub returns-in-Some : goal.returns-in-Some
 unfolding missing_payload when
-returns-in-At c =
-    rw (c.single.ensures, c.at.ensures, ← c.child_with_field.ensures, c.in-At.is, sym c.has_member.ensures ∙ c.if-has_member.false)
+returns-in-Some c =
+    rw (c.single.ensures, c.at.ensures, ← c.child_with_field.ensures, c.in-Some.is, sym c.has_member.ensures ∙ c.if-has_member.false)
 
-pub returns-in-Nothing : goal.returns-in-Nothing
+pub returns-in-None : goal.returns-in-None
 unfolding missing_payload
-returns-in-Nothing c = rw (← c.child_with_field.ensures, c.in-Nothing.is)
+returns-in-None c = rw (← c.child_with_field.ensures, c.in-None.is)

@@ -2,11 +2,11 @@
 use Rattle.rules.specs.PayloadFields.{second_payload}
 use Rattle.payload_fields.proofs.second_payload.Goals as goal
 
-pub returns-in-At : goal.returns-in-At
+pub returns-in-Some : goal.returns-in-Some
 unfolding second_payload
-returns-in-At c =
-    rw (c.in-At.is, ← c.at.ensures, ← c.at-in-At.ensures, ← c.double.ensures) c.when.ensures
+returns-in-Some c =
+    rw (c.in-Some.is, ← c.at.ensures, ← c.at-in-Some.ensures, ← c.double.ensures) c.when.ensures
 
-pub returns-in-Nothing : goal.returns-in-Nothing
+pub returns-in-None : goal.returns-in-None
 unfolding second_payload
-returns-in-Nothing c = rw c.in-Nothing.is
+returns-in-None c = rw c.in-None.is

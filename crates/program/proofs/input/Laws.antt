@@ -16,7 +16,8 @@ use Rattle.rules.specs.Layouts.{layout, unsound_at, if_found}
 use Rattle.rules.specs.Places.{first}
 use Rattle.rules.specs.Replies.{Answer, answered, by_layout, answer}
 use Rattle.rules.specs.Printed.{printed, program}
-use Rattle.rules.specs.declared.Layout.TheVariants as layouts
+use Rattle.rules.specs.declared.LayoutError.TheVariants as layouts
+use Rattle.std.proofs.Common.{Err}
 use Rattle.rules.specs.declared.Reply.TheVariants.{Uneven, TooLong}
 use Rattle.store.proofs.Laws.{length-written}
 use Rattle.table.proofs.Laws.{length-decode}
@@ -90,7 +91,7 @@ long-answer : (i t f : List ℕ) → 64000 < length i → answer i t f ≡ by_re
 unfolding answer by_layout layout by_remainder
 long-answer i t f h = go (ℕ_discrete (length i % 40) 0)
   where
-    row : (a : Bool) {b : Bool} → b ≡ true → by_layout i t f (if a then layouts.Uneven else if b then layouts.TooLong else if_found (first (unsound_at i) 0 (length (decode i)))) ≡ (if a then answered Uneven t f else answered TooLong t f)
+    row : (a : Bool) {b : Bool} → b ≡ true → by_layout i t f (if a then Err layouts.Uneven else if b then Err layouts.TooLong else if_found (first (unsound_at i) 0 (length (decode i)))) ≡ (if a then answered Uneven t f else answered TooLong t f)
     row true e = refl
     row false e = rw e
 

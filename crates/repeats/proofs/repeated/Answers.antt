@@ -6,13 +6,13 @@ use Rattle.repeats.proofs.repeated.Goals as goal
 pub returns-then-is_decl : goal.returns-then-is_decl
 unfolding repeated
 returns-then-is_decl c =
-    rw (c.in-At.is, ← c.at-s.ensures, sym c.is_decl.ensures ∙ c.if-is_decl.true)
+    rw (c.in-Some.is, ← c.at-s.ensures, sym c.is_decl.ensures ∙ c.if-is_decl.true)
 
 pub returns-else-is_decl : goal.returns-else-is_decl
 unfolding repeated
 returns-else-is_decl c =
-    rw (c.double.ensures, c.in-At.is, ← c.at-s.ensures, sym c.is_decl.ensures ∙ c.if-is_decl.false, ← c.at.ensures)
+    rw (c.double.ensures, c.in-Some.is, ← c.at-s.ensures, sym c.is_decl.ensures ∙ c.if-is_decl.false, ← c.at.ensures)
 
-pub returns-in-Nothing : goal.returns-in-Nothing
+pub returns-in-None : goal.returns-in-None
 unfolding repeated
-returns-in-Nothing c = rw c.in-Nothing.is
+returns-in-None c = rw c.in-None.is

@@ -8,12 +8,12 @@ unfolding pass1_at
 returns-then-not-is_named_decl c =
     rw (← c.kind.ensures, sym c.is_named_decl.ensures ∙ c.if-not-is_named_decl.true)
 
-pub returns-in-At : goal.returns-in-At
+pub returns-in-Some : goal.returns-in-Some
 unfolding pass1_at redeclared
-returns-in-At c =
-    rw (c.double.ensures, ← c.kind.ensures, sym c.is_named_decl.ensures ∙ c.if-not-is_named_decl.false, ← c.earlier.ensures, c.in-At.is, c.at-in-At.ensures, c.at.ensures)
+returns-in-Some c =
+    rw (c.double.ensures, ← c.kind.ensures, sym c.is_named_decl.ensures ∙ c.if-not-is_named_decl.false, ← c.earlier.ensures, c.in-Some.is, c.at-in-Some.ensures, c.at.ensures)
 
-pub returns-in-Nothing : goal.returns-in-Nothing
+pub returns-in-None : goal.returns-in-None
 unfolding pass1_at redeclared
-returns-in-Nothing c =
-    rw (← c.kind.ensures, sym c.is_named_decl.ensures ∙ c.if-not-is_named_decl.false, ← c.earlier.ensures, c.in-Nothing.is)
+returns-in-None c =
+    rw (← c.kind.ensures, sym c.is_named_decl.ensures ∙ c.if-not-is_named_decl.false, ← c.earlier.ensures, c.in-None.is)

@@ -7,13 +7,13 @@ use Rattle.search.proofs.first_within.Goals as goal
 
 pub overflow_add-d : goal.overflow_add-d
 overflow_add-d c =
-    omega (arith, nearest-below _ _ c.in-At.d (sym c.nearest.ensures ∙ c.in-At.is), c.ranges.place)
+    omega (arith, nearest-below _ _ c.in-Some.d (sym c.nearest.ensures ∙ c.in-Some.is), c.ranges.place)
 
-pub returns-in-At : goal.returns-in-At
+pub returns-in-Some : goal.returns-in-Some
 unfolding first_within first_after
-returns-in-At c =
-    rw (← c.nearest.ensures, c.in-At.is) c.first.ensures
+returns-in-Some c =
+    rw (← c.nearest.ensures, c.in-Some.is) c.first.ensures
 
-pub returns-in-Nothing : goal.returns-in-Nothing
+pub returns-in-None : goal.returns-in-None
 unfolding first_within first_after
-returns-in-Nothing c = rw (← c.nearest.ensures, c.in-Nothing.is)
+returns-in-None c = rw (← c.nearest.ensures, c.in-None.is)

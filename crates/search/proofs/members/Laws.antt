@@ -1,4 +1,5 @@
 -- How many members a declaration has, and what stands behind the last record. Assumes nothing.
+use Rattle.std.proofs.Common.{None, Option, Some, ℕ}
 use Prim.Native.Nat.{ℕ, ◌+◌, ◌-◌, ◌<◌, ◌≤◌}
 use mathlib.Core.Path.{◌≡◌, refl, sym, ap}
 use mathlib.Core.List.{List}
@@ -7,27 +8,25 @@ use native.Mathlib.Omega.{arith}
 use lib.ListN.{length}
 use Rattle.rules.specs.Places.{first, holds_at, first_from, found_inside, up_to, member_count}
 use Rattle.rules.specs.declared.Record.{Record}
-use Rattle.rules.specs.declared.Found.{Found}
-use Rattle.rules.specs.declared.Found.TheVariants.{At, Nothing}
 use Rattle.rules.specs.declared.Target.{Target}
 use Rattle.rules.specs.declared.Target.TheVariants.{Decl}
 use Rattle.table.proofs.Laws.{first-in}
 
 -- the members of a declaration
 module _ (rs : List Record) (d : ℕ) where
-  counted : (x : Found) → ((e : ℕ) → x ≡ At e → (d + 1 ≤ e) × (e < length rs)) → d < length rs → d + 1 + up_to (length rs) (d + 1) x ≤ length rs
-  counted (At e) h g = let z = h e refl in omega arith
-  counted Nothing h g = omega arith
+  counted : (x : Option ℕ) → ((e : ℕ) → x ≡ Some e → (d + 1 ≤ e) × (e < length rs)) → d < length rs → d + 1 + up_to (length rs) (d + 1) x ≤ length rs
+  counted (Some e) h g = let z = h e refl in omega arith
+  counted None h g = omega arith
 
   pub members-in : d < length rs → d + 1 + member_count rs d ≤ length rs
   unfolding member_count
   members-in g = counted (first (holds_at rs Decl) (d + 1) (length rs - (d + 1))) (first-in (holds_at rs Decl) (length rs) (d + 1)) g
 
-  pub count_at : (e : ℕ) → d < length rs → first (holds_at rs Decl) (d + 1) (length rs - (d + 1)) ≡ At e → (d + 1 ≤ e) × (e - (d + 1) ≡ member_count rs d)
+  pub count_at : (e : ℕ) → d < length rs → first (holds_at rs Decl) (d + 1) (length rs - (d + 1)) ≡ Some e → (d + 1 ≤ e) × (e - (d + 1) ≡ member_count rs d)
   unfolding member_count
   count_at e g h = ((first-in (holds_at rs Decl) (length rs) (d + 1) e h).0, rw h)
 
-  pub count-end : first (holds_at rs Decl) (d + 1) (length rs - (d + 1)) ≡ Nothing → length rs - (d + 1) ≡ member_count rs d
+  pub count-end : first (holds_at rs Decl) (d + 1) (length rs - (d + 1)) ≡ None → length rs - (d + 1) ≡ member_count rs d
   unfolding member_count
   count-end h = rw h
 

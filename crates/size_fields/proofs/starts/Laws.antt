@@ -1,4 +1,5 @@
 -- The starts of pass 5's searches, a place at a time. Assumes nothing.
+use Rattle.std.proofs.Common.{Some}
 use Prim.Native.Nat.{ℕ, ◌+◌, ◌%◌, ◌<◌, ◌≤◌}
 use mathlib.Core.Path.{◌≡◌, refl, sym, ap, ◌∙◌}
 use mathlib.Core.Bool.{Bool, true, false, ◌&&◌, ◌||◌}
@@ -15,7 +16,6 @@ use Rattle.rules.specs.Table.{at}
 use Rattle.rules.specs.Places.{nearest, holds, holds_at, first_from, first_after, first_within}
 use Rattle.rules.specs.SizeFields.{matching}
 use Rattle.rules.specs.declared.Record.{Record}
-use Rattle.rules.specs.declared.Found.TheVariants.{At}
 use Rattle.rules.specs.declared.Target.TheVariants.{Decl}
 use Rattle.table.proofs.Laws.{up-miss, same-default}
 use Rattle.table.proofs.Searches.{and-false, nearest-is}
@@ -107,7 +107,7 @@ module _ (rs : List Record) (last : List ℕ) where
       → first_within rs (target_at rs q) q ≡ first_from rs (target_at rs q) (start_for last e (at rs q).second)
   unfolding first_within first_after
   later-within e d q w h a b =
-      let n : nearest (holds_at rs Decl) q ≡ At d = nearest-is (holds_at rs Decl) q d a h (λ i c f. w.members i (omega arith) (omega arith)) in
+      let n : nearest (holds_at rs Decl) q ≡ Some d = nearest-is (holds_at rs Decl) q d a h (λ i c f. w.members i (omega arith) (omega arith)) in
       rw n (w.skips (at rs q).kind (at rs q).second)
 
   module _ (e p : ℕ) (l : p < length rs) (w : KeptPlaces rs last e (p + 1)) where

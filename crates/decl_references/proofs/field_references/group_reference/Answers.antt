@@ -6,13 +6,13 @@ use Rattle.decl_references.proofs.field_references.group_reference.Goals as goal
 pub returns-then-kind-eq-GROUP : goal.returns-then-kind-eq-GROUP
 unfolding group_reference
 returns-then-kind-eq-GROUP c =
-    rw (c.in-At.is, ← c.kind.ensures, eq-eqb _ _ c.if-kind-eq-GROUP.true)
+    rw (c.in-Some.is, ← c.kind.ensures, eq-eqb _ _ c.if-kind-eq-GROUP.true)
 
 pub returns-else-kind-eq-GROUP : goal.returns-else-kind-eq-GROUP
 unfolding group_reference
 returns-else-kind-eq-GROUP c =
-    rw (c.in-At.is, ← c.kind.ensures, ne_eqb _ _ c.if-kind-eq-GROUP.false)
+    rw (c.in-Some.is, ← c.kind.ensures, ne_eqb _ _ c.if-kind-eq-GROUP.false)
 
-pub returns-in-Nothing : goal.returns-in-Nothing
+pub returns-in-None : goal.returns-in-None
 unfolding group_reference
-returns-in-Nothing c = rw c.in-Nothing.is
+returns-in-None c = rw c.in-None.is

@@ -13,7 +13,7 @@ loop-p-init c =
 
 pub overflow_cast-targets : goal.overflow_cast-targets
 overflow_cast-targets c =
-    omega (arith, named_in _ _ (sym c.decl_named.ensures ∙ c.in-At.is), c.requires.table_len_bound.0)
+    omega (arith, named_in _ _ (sym c.decl_named.ensures ∙ c.in-Some.is), c.requires.table_len_bound.0)
 
 pub offset_bounds-targets-q : goal.offset_bounds-targets-q
 offset_bounds-targets-q c =
@@ -24,15 +24,15 @@ bounds-targets-q c =
     let v = c.loop-p.invariant in
     omega (arith, v.0.long, v.2, c.loop-p-test.true)
 
-pub loop-p-preserved-in-At : goal.loop-p-preserved-in-At
-loop-p-preserved-in-At c =
+pub loop-p-preserved-in-Some : goal.loop-p-preserved-in-Some
+loop-p-preserved-in-Some c =
     let v = c.loop-p.invariant in
     let h = c.loop-p-test.true in
     let e = c.decl_named.ensures ∙ ap (decl_named _) c.second-x.ensures in (
-      known_next v.0 (omega (arith, v.2, h)) e c.in-At.is,
+      known_next v.0 (omega (arith, v.2, h)) e c.in-Some.is,
       omega arith,
       v.2,
-      length-set c.loop-p.targets c.loop-p.p c.in-At.g ∙ v.3,
+      length-set c.loop-p.targets c.loop-p.p c.in-Some.g ∙ v.3,
     )
 
 pub loop-p-preserved-in_default : goal.loop-p-preserved-in_default

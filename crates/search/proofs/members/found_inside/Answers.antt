@@ -2,11 +2,11 @@
 use Rattle.rules.specs.Places.{found_inside}
 use Rattle.search.proofs.members.found_inside.Goals as goal
 
-pub returns-in-At : goal.returns-in-At
+pub returns-in-Some : goal.returns-in-Some
 unfolding found_inside
-returns-in-At c =
-    rw (c.in-At.is, c.is_decl.ensures, c.kind.ensures)
+returns-in-Some c =
+    rw (c.in-Some.is, c.is_decl.ensures, c.kind.ensures)
 
-pub returns-in-Nothing : goal.returns-in-Nothing
+pub returns-in-None : goal.returns-in-None
 unfolding found_inside
-returns-in-Nothing c = rw c.in-Nothing.is
+returns-in-None c = rw c.in-None.is

@@ -13,12 +13,12 @@ overflow_add-a c =
 
 pub overflow_sub-result : goal.overflow_sub-result
 overflow_sub-result c =
-    (count_at (decode c.args.table.now) c.args.decl c.in-At.e c.requires (sym c.first.ensures ∙ c.in-At.is)).0
+    (count_at (decode c.args.table.now) c.args.decl c.in-Some.e c.requires (sym c.first.ensures ∙ c.in-Some.is)).0
 
-pub returns-in-At : goal.returns-in-At
-returns-in-At c =
-    let z = count_at (decode c.args.table.now) c.args.decl c.in-At.e c.requires (sym c.first.ensures ∙ c.in-At.is) in (z.1, rw z.1 (members-in (decode c.args.table.now) c.args.decl c.requires))
+pub returns-in-Some : goal.returns-in-Some
+returns-in-Some c =
+    let z = count_at (decode c.args.table.now) c.args.decl c.in-Some.e c.requires (sym c.first.ensures ∙ c.in-Some.is) in (z.1, rw z.1 (members-in (decode c.args.table.now) c.args.decl c.requires))
 
-pub returns-in-Nothing : goal.returns-in-Nothing
-returns-in-Nothing c =
-    let z = ap (λ (x : ℕ). x - (c.args.decl + 1)) c.count.ensures ∙ count-end (decode c.args.table.now) c.args.decl (sym c.first.ensures ∙ c.in-Nothing.is) in (z, rw z (members-in (decode c.args.table.now) c.args.decl c.requires))
+pub returns-in-None : goal.returns-in-None
+returns-in-None c =
+    let z = ap (λ (x : ℕ). x - (c.args.decl + 1)) c.count.ensures ∙ count-end (decode c.args.table.now) c.args.decl (sym c.first.ensures ∙ c.in-None.is) in (z, rw z (members-in (decode c.args.table.now) c.args.decl c.requires))

@@ -7,22 +7,22 @@ use Rattle.size_fields.proofs.targets.misnamed.Goals as goal
 pub returns-then-is_decl : goal.returns-then-is_decl
 unfolding misnamed
 returns-then-is_decl c =
-    rw (c.single.ensures, c.in-At.is, ← c.at-s.ensures, sym c.is_decl.ensures ∙ c.if-is_decl.true, ← c.at-r.ensures)
+    rw (c.single.ensures, c.in-Some.is, ← c.at-s.ensures, sym c.is_decl.ensures ∙ c.if-is_decl.true, ← c.at-r.ensures)
 
 -- what may be sized
 pub returns-then-is_sized : goal.returns-then-is_sized
 unfolding misnamed
 returns-then-is_sized c =
-    rw (c.in-At.is, ← c.at-s.ensures, sym c.is_decl.ensures ∙ c.if-is_decl.false, sym c.is_sized.ensures ∙ c.if-is_sized.true)
+    rw (c.in-Some.is, ← c.at-s.ensures, sym c.is_decl.ensures ∙ c.if-is_decl.false, sym c.is_sized.ensures ∙ c.if-is_sized.true)
 
 -- another field
 pub returns-else-is_sized : goal.returns-else-is_sized
 unfolding misnamed
 returns-else-is_sized c =
-    rw (c.double.ensures, c.in-At.is, ← c.at-s.ensures, sym c.is_decl.ensures ∙ c.if-is_decl.false, sym c.is_sized.ensures ∙ c.if-is_sized.false, ← c.at-r.ensures)
+    rw (c.double.ensures, c.in-Some.is, ← c.at-s.ensures, sym c.is_decl.ensures ∙ c.if-is_decl.false, sym c.is_sized.ensures ∙ c.if-is_sized.false, ← c.at-r.ensures)
 
 -- nothing
-pub returns-in-Nothing : goal.returns-in-Nothing
+pub returns-in-None : goal.returns-in-None
 unfolding misnamed
-returns-in-Nothing c =
-    rw (c.single-in-Nothing.ensures, c.in-Nothing.is, ← c.at-r.ensures)
+returns-in-None c =
+    rw (c.single-in-None.ensures, c.in-None.is, ← c.at-r.ensures)
