@@ -34,16 +34,5 @@ pub fn at(table: &[u8], place: usize) -> Record
     if place < table::count(table) {
         return record(table, place);
     }
-    Record {
-        kind: 0,
-        marks: 0,
-        name: 0,
-        second: 0,
-        third: 0,
-        one: 0,
-        two: 0,
-        key: 0,
-        start: 0,
-        end: 0,
-    }
+    Record::default()
 }
