@@ -1,6 +1,6 @@
 -- The fault buffer fault by fault. `logged` of the rules is the closed form, which `noted-logged` (proofs/Laws.antt) shows equal.
-use Rattle.std.specs.Prelude.{ℕ, ◌+◌, ◌*◌, ltb, if◌then◌else◌, None, Option, Some}
-use mathlib.Core.List.{List, [], ◌∷◌, foldl}
+use Rattle.std.specs.Prelude.{◌+◌, ◌*◌, ltb, if◌then◌else◌}
+use mathlib.Core.List.{List, foldl}
 use Rattle.rules.specs.Bytes.{written}
 use Rattle.rules.specs.Faults.{fault_length, fault_room, fault_bytes, Log, log}
 use Rattle.rules.specs.declared.Fault.{Fault}
@@ -9,10 +9,6 @@ use Rattle.rules.specs.declared.Tally.{Tally}
 -- no fault yet
 abbrev pub no_faults : Tally
 no_faults = record { kept = 0; total = 0 }
-
--- so many faults kept, and so many found
-abbrev pub tallied : ℕ → ℕ → Tally
-tallied kept total = record { kept = kept; total = total }
 
 -- one fault more is kept where a whole one still fits, and counted
 unfoldable pub noted : Log → Fault → Log

@@ -37,26 +37,12 @@ pub fn double(code: u16, primary: Record, secondary: Record) -> Fault
 pub(crate) fn bytes_of(fault: Fault) -> [u8; FAULT_LENGTH]
     ensures { result ≡ fault_bytes fault }
 {
-    [
-        (fault.code % 256) as u8,
-        (fault.code / 256 % 256) as u8,
-        (fault.secondary % 256) as u8,
-        (fault.secondary / 256 % 256) as u8,
-        (fault.start % 256) as u8,
-        (fault.start / 256 % 256) as u8,
-        (fault.start / 256 / 256 % 256) as u8,
-        (fault.start / 256 / 256 / 256 % 256) as u8,
-        (fault.end % 256) as u8,
-        (fault.end / 256 % 256) as u8,
-        (fault.end / 256 / 256 % 256) as u8,
-        (fault.end / 256 / 256 / 256 % 256) as u8,
-        (fault.start2 % 256) as u8,
-        (fault.start2 / 256 % 256) as u8,
-        (fault.start2 / 256 / 256 % 256) as u8,
-        (fault.start2 / 256 / 256 / 256 % 256) as u8,
-        (fault.end2 % 256) as u8,
-        (fault.end2 / 256 % 256) as u8,
-        (fault.end2 / 256 / 256 % 256) as u8,
-        (fault.end2 / 256 / 256 / 256 % 256) as u8,
-    ]
+    let mut bytes = [0; FAULT_LENGTH];
+    bytes[0..2].copy_from_slice(&fault.code.to_le_bytes());
+    bytes[2..4].copy_from_slice(&fault.secondary.to_le_bytes());
+    bytes[4..8].copy_from_slice(&fault.start.to_le_bytes());
+    bytes[8..12].copy_from_slice(&fault.end.to_le_bytes());
+    bytes[12..16].copy_from_slice(&fault.start2.to_le_bytes());
+    bytes[16..20].copy_from_slice(&fault.end2.to_le_bytes());
+    bytes
 }

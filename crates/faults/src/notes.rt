@@ -4,17 +4,24 @@ ghost use Rattle.std.specs.Option.{option_to_list};
 ghost use Rattle.rules.specs.Faults.{log};
 ghost use Rattle.faults.specs.Notes.{noted, noted_all};
 
-use crate::note;
+use crate::fault;
+use rules::limits::FAULT_LENGTH;
 use rules::{Fault, Tally};
 
-// One fault more, where the tally goes in and comes back by value.
+// One fault more: kept where a whole one still fits, and counted.
 pub fn noted(before: Tally, buffer: &mut [u8], fault: Fault) -> Tally
     requires { before.total + 1 < 2 ^ 64 }
     ensures { log result buffer.new ≡ noted (log before buffer.old) fault }
 {
-    let mut tally = before;
-    note(&mut tally, buffer, fault);
-    tally
+    let total = before.total + 1;
+    if before.kept < buffer.len() / FAULT_LENGTH {
+        store::write(buffer, FAULT_LENGTH * before.kept, &fault::bytes_of(fault));
+        return Tally {
+            kept: before.kept + 1,
+            total,
+        };
+    }
+    Tally { total, ..before }
 }
 
 // What was found at a place, noted.
@@ -22,6 +29,7 @@ pub fn note_found(tally: Tally, buffer: &mut [u8], found: Option<Fault>) -> Tall
     requires { tally.total + 1 < 2 ^ 64 }
     ensures { log result buffer.new ≡ noted_all (log tally buffer.old) (option_to_list found) }
 {
+    // map_or with a closure that borrows the buffer leaves nothing known of it where nothing was found.
     match found {
         Some(f) => noted(tally, buffer, f),
         None => tally,

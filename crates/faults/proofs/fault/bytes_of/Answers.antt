@@ -1,73 +1,24 @@
--- `faults::fault::bytes_of` meets its contract. Assumes nothing.
-use mathlib.Core.Path.{refl}
-use Rattle.numbers.proofs.Parts.{low_byte, Bytewise, by_bytes}
+-- `faults::fault::bytes_of` meets its contract: each number's bytes stand where they are written. Assumes nothing.
+use Rattle.std.proofs.Math.Nat.{div-div-eq-div-mul}
 use Rattle.rules.specs.Bytes.{bytes}
 use Rattle.rules.specs.Faults.{fault_bytes}
 use Rattle.faults.proofs.fault.bytes_of.Goals as goal
 
 pub returns : goal.returns
-unfolding fault_bytes bytes Bytewise
+unfolding fault_bytes bytes
 returns c =
-    by_bytes 4 _ _ (refl, (refl, (refl, (refl, tt))))
-    (by_bytes 8 _ _ (refl, (refl, (refl, (refl, (refl, (refl, (refl, (refl, tt))))))))
-    (by_bytes 8 _ _ (refl, (refl, (refl, (refl, (refl, (refl, (refl, (refl, tt)))))))) refl))
-
-pub overflow_cast-result : goal.overflow_cast-result
-overflow_cast-result c = low_byte _
-
-pub overflow_cast-result-2 : goal.overflow_cast-result-2
-overflow_cast-result-2 c = low_byte _
-
-pub overflow_cast-result-3 : goal.overflow_cast-result-3
-overflow_cast-result-3 c = low_byte _
-
-pub overflow_cast-result-4 : goal.overflow_cast-result-4
-overflow_cast-result-4 c = low_byte _
-
-pub overflow_cast-result-5 : goal.overflow_cast-result-5
-overflow_cast-result-5 c = low_byte _
-
-pub overflow_cast-result-6 : goal.overflow_cast-result-6
-overflow_cast-result-6 c = low_byte _
-
-pub overflow_cast-result-7 : goal.overflow_cast-result-7
-overflow_cast-result-7 c = low_byte _
-
-pub overflow_cast-result-8 : goal.overflow_cast-result-8
-overflow_cast-result-8 c = low_byte _
-
-pub overflow_cast-result-9 : goal.overflow_cast-result-9
-overflow_cast-result-9 c = low_byte _
-
-pub overflow_cast-result-10 : goal.overflow_cast-result-10
-overflow_cast-result-10 c = low_byte _
-
-pub overflow_cast-result-11 : goal.overflow_cast-result-11
-overflow_cast-result-11 c = low_byte _
-
-pub overflow_cast-result-12 : goal.overflow_cast-result-12
-overflow_cast-result-12 c = low_byte _
-
-pub overflow_cast-result-13 : goal.overflow_cast-result-13
-overflow_cast-result-13 c = low_byte _
-
-pub overflow_cast-result-14 : goal.overflow_cast-result-14
-overflow_cast-result-14 c = low_byte _
-
-pub overflow_cast-result-15 : goal.overflow_cast-result-15
-overflow_cast-result-15 c = low_byte _
-
-pub overflow_cast-result-16 : goal.overflow_cast-result-16
-overflow_cast-result-16 c = low_byte _
-
-pub overflow_cast-result-17 : goal.overflow_cast-result-17
-overflow_cast-result-17 c = low_byte _
-
-pub overflow_cast-result-18 : goal.overflow_cast-result-18
-overflow_cast-result-18 c = low_byte _
-
-pub overflow_cast-result-19 : goal.overflow_cast-result-19
-overflow_cast-result-19 c = low_byte _
-
-pub overflow_cast-result-20 : goal.overflow_cast-result-20
-overflow_cast-result-20 c = low_byte _
+    rw (
+      c.copy_from_slice.ensures.after,
+      c.to_le_bytes.ensures,
+      c.copy_from_slice-2.ensures.after,
+      c.to_le_bytes-2.ensures,
+      c.copy_from_slice-3.ensures.after,
+      c.to_le_bytes-3.ensures,
+      c.copy_from_slice-4.ensures.after,
+      c.to_le_bytes-4.ensures,
+      c.copy_from_slice-5.ensures.after,
+      c.to_le_bytes-5.ensures,
+      c.copy_from_slice-6.ensures.after,
+      c.to_le_bytes-6.ensures,
+    )
+    (simp div-div-eq-div-mul)
