@@ -3,70 +3,49 @@
 
 pub mod range;
 
-ghost use Rattle.std.specs.Prelude.{◌≡◌, ◌≤◌, leb, length, take};
+ghost use Rattle.std.specs.Prelude.{◌≡◌, ◌≤◌, leb, length, take, count_by};
+ghost use Rattle.std.specs.List.Sorted.{IsNonDecreasing};
 ghost use Rattle.rules.specs.Table.{decode};
-ghost use Rattle.enum_bounds.specs.Bounds.{one_if, count_of, holders, lows_of, highs_of};
-ghost use Rattle.enum_bounds.specs.Order.{Ascending, Split};
+ghost use Rattle.enum_bounds.specs.Bounds.{holders, lows_of, highs_of};
 
 use range::{greater, lesser};
 
-// The bounds of the ranges at the first `count` places of `places`.
-pub fn fill(table: &[u8], places: &[u16], count: usize, lows: &mut [u64], highs: &mut [u64])
-    requires { (count ≤ length places.now) × (count ≤ length lows.old) × (count ≤ length highs.old) }
-    ensures { (take count lows.new ≡ lows_of (decode table.now) (take count places.now)) × (take count highs.new ≡ highs_of (decode table.now) (take count places.now)) }
+// The bounds of the ranges at the places of `places`.
+pub fn fill(table: &[u8], places: &[u16], lows: &mut [u64], highs: &mut [u64])
+    requires { (length places.now ≤ length lows.old) × (length places.now ≤ length highs.old) }
+    ensures { (take (length places.now) lows.new ≡ lows_of (decode table.now) places.now) × (take (length places.now) highs.new ≡ highs_of (decode table.now) places.now) }
 {
-    let mut j = 0;
-    while j < count {
-        let r = records::at(table, places[j] as usize);
+    for (j, place) in places.iter().enumerate() {
+        let r = records::at(table, usize::from(*place));
         lows[j] = lesser(r);
         highs[j] = greater(r);
-        j += 1;
     }
 }
 
-// How many of the first `count` numbers of `numbers`, which ascend, are at most `value`: a search by halves.
-fn at_most(numbers: &[u64], count: usize, value: u64) -> usize
-    requires { (count ≤ length numbers.now) × Ascending leb (take count numbers.now) }
-    ensures { (result ≤ count) × Split (λ x. leb x value) (take count numbers.now) result result }
-{
-    let mut low = 0;
-    let mut high = count;
-    while low < high {
-        let middle = low + (high - low) / 2;
-        if numbers[middle] <= value {
-            low = middle + 1;
-        } else {
-            high = middle;
-        }
-    }
-    low
+// The bounds of ranges, the lesser ones in order. They are kept apart, as each is scanned by itself.
+#[derive(Clone, Copy)]
+pub struct RangeBounds<'a> {
+    pub lows: &'a [u64],
+    pub highs: &'a [u64],
+    ghost ascending: { IsNonDecreasing lows.now },
+    ghost paired: { length lows.now ≡ length highs.now },
 }
 
-fn one_if(test: bool) -> usize
-    ensures { (result ≡ one_if test) × (result ≤ 1) }
-{
-    if test { 1 } else { 0 }
-}
-
-// How many of the first `end` numbers of `numbers` are at least `value`.
-fn at_least(numbers: &[u64], end: usize, value: u64) -> usize
-    requires { end ≤ length numbers.now }
-    ensures { (result ≡ count_of (λ x. leb value x) (take end numbers.now)) × (result ≤ end) }
+// How many of `numbers` are at least `value`. Adding each test compiles to no branch, where `filter` and `count` take one for each number.
+fn at_least(numbers: &[u64], value: u64) -> usize
+    ensures { result ≡ count_by (λ x. leb value x) numbers.now }
 {
     let mut count = 0;
-    let mut j = 0;
-    while j < end {
-        count += one_if(value <= numbers[j]);
-        j += 1;
+    for x in numbers {
+        count += usize::from(value <= *x);
     }
     count
 }
 
-// How many of the first `count` ranges hold `value`. Their lesser bounds ascend, so that none behind those at most `value` does.
-pub fn holders(lows: &[u64], highs: &[u64], count: usize, value: u64) -> usize
-    requires { (count ≤ length lows.now) × (count ≤ length highs.now) × Ascending leb (take count lows.now) }
-    ensures { (result ≡ holders value (take count lows.now) (take count highs.now)) × (result ≤ count) }
+// How many ranges hold `value`: none behind those whose lesser bound is at most `value` does.
+pub fn holders(bounds: &RangeBounds, value: u64) -> usize
+    ensures { (result ≡ holders value bounds.now.lows.now bounds.now.highs.now) × (result ≤ length bounds.now.highs.now) }
 {
-    let k = at_most(lows, count, value);
-    at_least(highs, k, value)
+    let k = bounds.lows.partition_point(|low| *low <= value);
+    at_least(&bounds.highs[..k], value)
 }

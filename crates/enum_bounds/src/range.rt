@@ -8,12 +8,12 @@ use rules::Record;
 pub fn lesser(r: Record) -> u64
     ensures { result ≡ lesser r }
 {
-    if r.one <= r.two { r.one } else { r.two }
+    r.one.min(r.two)
 }
 
 // The greater bound.
 pub fn greater(r: Record) -> u64
     ensures { result ≡ greater r }
 {
-    if r.one <= r.two { r.two } else { r.one }
+    r.one.max(r.two)
 }
