@@ -1,7 +1,7 @@
 -- `enum_ranges::overlaps::note_overlaps` meets its contract: after j turns the faults of the first j pairs of neighbours are noted. Assumes nothing.
-use Prim.Native.Nat.{◌+◌, ◌-◌, ◌≤◌}
+use Prim.Native.Nat.{◌+◌}
 use mathlib.Core.Path.{◌≡◌}
-use lib.ListN.{length, get_or, take}
+use lib.ListN.{get_or}
 use Rattle.rules.specs.Table.{decode}
 use Rattle.rules.specs.Places.{each}
 use Rattle.rules.specs.Faults.{log}
@@ -11,7 +11,4 @@ use Rattle.enum_ranges.proofs.overlaps.note_overlaps.Given as goal
 
 abbrev pub invariant-loop-j : goal.invariant-loop-j
 invariant-loop-j l =
-    (log l.kept l.buffer ≡ noted_all (log l.initial.kept l.initial.buffer) (each (λ i. overlap (decode l.table) (get_or (take l.count l.places) i 0) (get_or (take l.count l.places) (i + 1) 0)) l.j)) × (l.j ≤ l.count - 1) × (length l.buffer ≡ length l.initial.buffer)
-
-abbrev pub decreases-loop-j : goal.decreases-loop-j
-decreases-loop-j l = l.count - l.j
+    log l.kept l.buffer ≡ noted_all (log l.initial.kept l.initial.buffer) (each (λ i. overlap (decode l.table) (get_or l.places i 0) (get_or l.places (i + 1) 0)) l.j)
