@@ -3,23 +3,45 @@
 
 ghost use Rattle.std.specs.Prelude.{◌≡◌, [], ◌∷◌, ◌++◌, ◌+◌, ◌^◌, ◌<◌, ◌≤◌};
 ghost use Rattle.std.specs.Option.{option_to_list};
-ghost use Rattle.rules.specs.Table.{decode};
+ghost use Rattle.rules.specs.Table.{decode, at};
 ghost use Rattle.rules.specs.Places.{each};
 ghost use Rattle.rules.specs.Faults.{log};
-ghost use Rattle.rules.specs.EnumDeclarations.{range_found, value_faults, held, range_faults, default_faults, inner_faults, tag_faults};
+ghost use Rattle.rules.specs.declared.Target.TheVariants.{TagOrDecl};
+ghost use Rattle.rules.specs.EnumDeclarations.{again, range_found, value_faults, held, range_faults, default_faults, inner_faults, tag_faults};
 ghost use Rattle.faults.specs.Notes.{noted_all};
 ghost use Rattle.repeats.specs.Marks.{Marked};
-ghost use Rattle.repeats.specs.declared.marks.Compared.TheVariants.{TagNames};
+ghost use Rattle.repeats.specs.declared.marks.Compared.TheVariants.{TagNames, TagValues};
 ghost use Rattle.enum_bounds.specs.Bounds.{Bounds};
 ghost use Rattle.enum_tags.specs.Before.{range_before};
-ghost use Rattle.enum_tags.specs.Tags.{TagsMarked, CheckingTag};
+ghost use Rattle.std.proofs.Props.{props};
 
-use enum_bounds::holders;
 use enum_bounds::range::{greater, lesser};
+use enum_bounds::{RangeBounds, holders};
 use faults::when;
 use repeats::marks::Compared;
 use repeats::{again, again_marked};
 use rules::{Fault, Record, Tally, Target, codes};
+
+// A table, with marks of the tags that may repeat an earlier name or value of their enum.
+#[derive(Clone, Copy)]
+pub struct MarkedTags<'a> {
+    pub table: &'a [u8],
+    pub names: &'a [u8],
+    pub values: &'a [u8],
+    pub ghost names_marked: { Marked (decode table.now) TagNames names.now } by { Prim.hlevel props },
+    pub ghost values_marked: { Marked (decode table.now) TagValues values.now } by { Prim.hlevel props },
+}
+
+// The tags of the enum at `decl`, which has `count` of them, with the bounds of its ranges.
+#[derive(Clone, Copy)]
+pub struct EnumTags<'a> {
+    pub marked: MarkedTags<'a>,
+    pub decl: usize,
+    pub count: usize,
+    pub bounds: RangeBounds<'a>,
+    pub ghost few: { count ≤ 1600 },
+    pub ghost bounded: { Bounds (decode marked.table.now) decl count bounds.lows.now bounds.highs.now } by { Prim.hlevel props },
+}
 
 // The range that a search found.
 fn range_found(table: &[u8], found: Option<usize>) -> Record
@@ -58,35 +80,40 @@ fn note_three(
     faults::notes::note_found(b, buffer, third)
 }
 
+// 12 where the name of the tag at `place` is that of an earlier tag.
+fn name_again(marked: &MarkedTags, place: usize) -> Option<Fault>
+    ensures { option_to_list result ≡ again 12 (decode marked.now.table.now) (TagOrDecl (at (decode marked.now.table.now) place).name) place }
+{
+    again_marked(
+        codes::DUPLICATE_TAG_IDENTIFIER,
+        marked.table,
+        Compared::TagNames,
+        place,
+        marked.names,
+    )
+}
+
 // A value within bounds: 12, 13, 14.
 fn note_value(
-    table: &[u8],
-    names: &[u8],
-    values: &[u8],
+    marked: &MarkedTags,
     low: u64,
     high: u64,
     place: usize,
     tally: Tally,
     buffer: &mut [u8],
 ) -> Tally
-    requires { (tally.total + 4 < 2 ^ 64) × TagsMarked (decode table.now) names.now values.now }
-    ensures { log result buffer.new ≡ noted_all (log tally buffer.old) (value_faults (decode table.now) low high place) }
+    requires { tally.total + 4 < 2 ^ 64 }
+    ensures { log result buffer.new ≡ noted_all (log tally buffer.old) (value_faults (decode marked.now.table.now) low high place) }
 {
-    let r = records::at(table, place);
+    let r = records::at(marked.table, place);
     let v = r.one;
-    let x = again_marked(
-        codes::DUPLICATE_TAG_IDENTIFIER,
-        table,
-        Compared::TagNames,
-        place,
-        names,
-    );
+    let x = name_again(marked, place);
     let y = again_marked(
         codes::DUPLICATE_TAG_VALUE,
-        table,
+        marked.table,
         Compared::TagValues,
         place,
-        values,
+        marked.values,
     );
     let z = when(
         (v < low) | (high < v),
@@ -101,57 +128,37 @@ fn note_times(fault: Fault, times: usize, tally: Tally, buffer: &mut [u8]) -> Ta
     ensures { log result buffer.new ≡ noted_all (log tally buffer.old) (each (λ _. fault ∷ []) times) }
 {
     let mut kept = tally;
-    let mut j = 0;
-    while j < times {
+    for _ in 0..times {
         kept = faults::notes::note_found(kept, buffer, Some(fault));
-        j += 1;
     }
     kept
 }
 
-// 43 for each range of the enum at `decl`, which has `tags` tags, that holds the value at `place`. The first `ranges` numbers are the
-// ranges' bounds.
-fn note_held(
-    table: &[u8],
-    lows: &[u64],
-    highs: &[u64],
-    ranges: usize,
-    decl: usize,
-    tags: usize,
-    place: usize,
-    tally: Tally,
-    buffer: &mut [u8],
-) -> Tally
-    requires { (tags ≤ 1600) × (tally.total + 1601 < 2 ^ 64) × Bounds (decode table.now) decl tags ranges lows.now highs.now }
-    ensures { log result buffer.new ≡ noted_all (log tally buffer.old) (held (decode table.now) decl tags place) }
+// 43 for each range of the enum that holds the value at `place`.
+fn note_held(tags: &EnumTags, place: usize, tally: Tally, buffer: &mut [u8]) -> Tally
+    requires { tally.total + 1601 < 2 ^ 64 }
+    ensures { log result buffer.new ≡ noted_all (log tally buffer.old) (held (decode tags.now.marked.table.now) tags.now.decl tags.now.count place) }
 {
-    let r = records::at(table, place);
-    let count = holders(lows, highs, ranges, r.one);
+    let r = records::at(tags.marked.table, place);
+    let count = holders(&tags.bounds, r.one);
     note_times(faults::fault::single(codes::E43, r), count, tally, buffer)
 }
 
 // A range: 12, 40, 40.
 fn note_range(
-    table: &[u8],
-    names: &[u8],
+    marked: &MarkedTags,
     most: u64,
     place: usize,
     tally: Tally,
     buffer: &mut [u8],
 ) -> Tally
-    requires { (tally.total + 4 < 2 ^ 64) × Marked (decode table.now) TagNames names.now }
-    ensures { log result buffer.new ≡ noted_all (log tally buffer.old) (range_faults (decode table.now) most place) }
+    requires { tally.total + 4 < 2 ^ 64 }
+    ensures { log result buffer.new ≡ noted_all (log tally buffer.old) (range_faults (decode marked.now.table.now) most place) }
 {
-    let r = records::at(table, place);
+    let r = records::at(marked.table, place);
     let low = r.one;
     let high = r.two;
-    let x = again_marked(
-        codes::DUPLICATE_TAG_IDENTIFIER,
-        table,
-        Compared::TagNames,
-        place,
-        names,
-    );
+    let x = name_again(marked, place);
     let f = faults::fault::single(codes::INVALID_TAG_RANGE, r);
     let y = when((most < low) | (most < high), f);
     let z = when(high <= low, f);
@@ -159,20 +166,14 @@ fn note_range(
 }
 
 // A default tag: 12, 44.
-fn note_default(table: &[u8], names: &[u8], place: usize, tally: Tally, buffer: &mut [u8]) -> Tally
-    requires { (tally.total + 4 < 2 ^ 64) × Marked (decode table.now) TagNames names.now }
-    ensures { log result buffer.new ≡ noted_all (log tally buffer.old) (default_faults (decode table.now) place) }
+fn note_default(marked: &MarkedTags, place: usize, tally: Tally, buffer: &mut [u8]) -> Tally
+    requires { tally.total + 4 < 2 ^ 64 }
+    ensures { log result buffer.new ≡ noted_all (log tally buffer.old) (default_faults (decode marked.now.table.now) place) }
 {
-    let x = again_marked(
-        codes::DUPLICATE_TAG_IDENTIFIER,
-        table,
-        Compared::TagNames,
-        place,
-        names,
-    );
+    let x = name_again(marked, place);
     let y = again(
         codes::DUPLICATE_DEFAULT_TAG,
-        table,
+        marked.table,
         Target::DefaultOrDecl,
         place,
     );
@@ -181,28 +182,20 @@ fn note_default(table: &[u8], names: &[u8], place: usize, tally: Tally, buffer: 
 
 // A value in a range, against the range: no 43. No range stands from `after` up to `place`.
 fn note_inner(
-    table: &[u8],
-    names: &[u8],
-    values: &[u8],
+    marked: &MarkedTags,
     after: usize,
     place: usize,
     tally: Tally,
     buffer: &mut [u8],
 ) -> Tally
-    requires { (tally.total + 4 < 2 ^ 64) × (range_before (decode table.now) place ≡ range_before (decode table.now) after) × TagsMarked (decode table.now) names.now values.now }
-    ensures { log result buffer.new ≡ noted_all (log tally buffer.old) (inner_faults (decode table.now) place) }
+    requires { (tally.total + 4 < 2 ^ 64) × (range_before (decode marked.now.table.now) place ≡ range_before (decode marked.now.table.now) after) }
+    ensures { log result buffer.new ≡ noted_all (log tally buffer.old) (inner_faults (decode marked.now.table.now) place) }
 {
-    let r = range_found(table, search::nearest(table, Target::Range, after));
-    note_value(
-        table,
-        names,
-        values,
-        lesser(r),
-        greater(r),
-        place,
-        tally,
-        buffer,
-    )
+    let r = range_found(
+        marked.table,
+        search::nearest(marked.table, Target::Range, after),
+    );
+    note_value(marked, lesser(r), greater(r), place, tally, buffer)
 }
 
 // Where no range stands from `after` up to `place`, the same for the next place.
@@ -216,34 +209,27 @@ pub fn after_range(table: &[u8], after: usize, place: usize) -> usize
     after
 }
 
-// The tag at `place` of the enum at `decl`, which has `tags` tags. The first `ranges` numbers are the bounds of its ranges; no range
-// stands from `after` up to `place`.
+// The tag at `place` of an enum. No range stands from `after` up to `place`.
 pub fn note_tag(
-    table: &[u8],
-    names: &[u8],
-    values: &[u8],
-    lows: &[u64],
-    highs: &[u64],
-    ranges: usize,
-    decl: usize,
-    tags: usize,
+    tags: &EnumTags,
     after: usize,
     place: usize,
     tally: Tally,
     buffer: &mut [u8],
 ) -> Tally
-    requires { CheckingTag (decode table.now) decl tags ranges lows.now highs.now names.now values.now after place tally.total }
-    ensures { log result buffer.new ≡ noted_all (log tally buffer.old) (tag_faults (decode table.now) decl tags place) }
+    requires { (tally.total + 1604 < 2 ^ 64) × (range_before (decode tags.now.marked.table.now) place ≡ range_before (decode tags.now.marked.table.now) after) }
+    ensures { log result buffer.new ≡ noted_all (log tally buffer.old) (tag_faults (decode tags.now.marked.table.now) tags.now.decl tags.now.count place) }
 {
-    let most = widths::scalar_max(records::at(table, decl).one);
-    match table::kind(table, place) {
+    let marked = &tags.marked;
+    let most = widths::scalar_max(records::at(marked.table, tags.decl).one);
+    match table::kind(marked.table, place) {
         kinds::TAG_VALUE => {
-            let kept = note_value(table, names, values, 0, most, place, tally, buffer);
-            note_held(table, lows, highs, ranges, decl, tags, place, kept, buffer)
+            let kept = note_value(marked, 0, most, place, tally, buffer);
+            note_held(tags, place, kept, buffer)
         }
-        kinds::TAG_RANGE => note_range(table, names, most, place, tally, buffer),
-        kinds::INNER_VALUE => note_inner(table, names, values, after, place, tally, buffer),
-        kinds::DEFAULT_TAG => note_default(table, names, place, tally, buffer),
+        kinds::TAG_RANGE => note_range(marked, most, place, tally, buffer),
+        kinds::INNER_VALUE => note_inner(marked, after, place, tally, buffer),
+        kinds::DEFAULT_TAG => note_default(marked, place, tally, buffer),
         _ => tally,
     }
 }

@@ -6,4 +6,4 @@ use Rattle.enum_tags.proofs.note_default.Goals as goal
 pub returns : goal.returns
 unfolding default_faults
 returns c =
-    rw (← c.again_marked-x.ensures, ← c.again-y.ensures) (rw append-nil at c.note_three.ensures)
+    rw (← c.name_again-x.ensures, ← c.again-y.ensures) (rw append-nil at c.note_three.ensures)

@@ -6,4 +6,4 @@ use Rattle.enum_tags.proofs.note_range.Goals as goal
 pub returns : goal.returns
 unfolding range_faults
 returns c =
-    c.note_three.ensures ∙ rw (c.when-z.ensures, c.when-y.ensures, c.single-f.ensures, c.again_marked-x.ensures, c.at-r.ensures)
+    c.note_three.ensures ∙ rw (c.when-z.ensures, c.when-y.ensures, c.single-f.ensures, c.name_again-x.ensures, c.at-r.ensures)

@@ -11,15 +11,15 @@ use Rattle.enum_tags.proofs.note_tag.Goals as goal
 
 pub note_held-requires : goal.note_held-requires
 note_held-requires c =
-    let rs = decode c.args.table.now in
+    let rs = decode c.args.tags.now.marked.table.now in
     let after = total-after _ _ (value_faults rs 0 c.scalar_max-most.result c.args.place) c.note_value-kept.ensures in
-    (search rules, omega (arith, value-few rs 0 c.scalar_max-most.result c.args.place), search rules)
+    omega (arith, value-few rs 0 c.scalar_max-most.result c.args.place)
 
 pub returns-in-40 : goal.returns-in-40
 returns-in-40 c =
-    let rs = decode c.args.table.now in
-    let both = noted-then _ (value_faults rs 0 c.scalar_max-most.result c.args.place) (held rs c.args.decl c.args.tags c.args.place) in
-    let tag = tag-value rs c.args.decl c.args.tags c.args.place (sym c.kind.ensures ∙ c.in-40.is) in
+    let rs = decode c.args.tags.now.marked.table.now in
+    let both = noted-then _ (value_faults rs 0 c.scalar_max-most.result c.args.place) (held rs c.args.tags.now.decl c.args.tags.now.count c.args.place) in
+    let tag = tag-value rs c.args.tags.now.decl c.args.tags.now.count c.args.place (sym c.kind.ensures ∙ c.in-40.is) in
     rw (← tag, ← c.at.ensures, ← c.scalar_max-most.ensures) (both c.note_value-kept.ensures c.note_held.ensures)
 
 pub returns-in-41 : goal.returns-in-41
@@ -40,4 +40,4 @@ returns-in-43 c =
 pub returns-in_default : goal.returns-in_default
 unfolding tag_faults
 returns-in_default c =
-    rw (← c.kind.ensures, ne_eqb _ _ c.in_default.in_default-own.rest.0.0.0.1, ne_eqb _ _ c.in_default.in_default-own.rest.0.0.1, ne_eqb _ _ c.in_default.in_default-own.rest.0.1, ne_eqb _ _ c.in_default.in_default-own.rest.1) (noted-none _)
+    rw (← c.kind.ensures, ne_eqb c.kind.result 40 (search rules), ne_eqb c.kind.result 41 (search rules), ne_eqb c.kind.result 42 (search rules), ne_eqb c.kind.result 43 (search rules)) (noted-none _)

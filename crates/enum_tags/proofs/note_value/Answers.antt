@@ -5,4 +5,4 @@ use Rattle.enum_tags.proofs.note_value.Goals as goal
 pub returns : goal.returns
 unfolding value_faults
 returns c =
-    rw (← c.again_marked-x.ensures, ← c.again_marked-y.ensures, ← c.at-r.ensures, ← c.single.ensures, ← c.when-z.ensures) c.note_three.ensures
+    rw (← c.name_again-x.ensures, ← c.again_marked-y.ensures, ← c.at-r.ensures, ← c.single.ensures, ← c.when-z.ensures) c.note_three.ensures
