@@ -1,7 +1,7 @@
 -- Laws of pass 4: how many faults there can be, and what a turn of each loop adds. Assumes nothing.
 use Rattle.std.proofs.Common.{None, Option, Some, ℕ}
-use Prim.Native.Nat.{ℕ, ◌+◌, ◌-◌, ◌*◌, ◌<◌, ◌≤◌}
-use mathlib.Core.Path.{◌≡◌, refl, ◌∙◌}
+use Prim.Native.Nat.{ℕ, zero, suc, ◌+◌, ◌-◌, ◌*◌, ◌<◌, ◌≤◌}
+use mathlib.Core.Path.{◌≡◌, refl}
 use mathlib.Core.List.{List, []}
 use native.Mathlib.Omega.{arith}
 use native.Mathlib.Nat.{le_trans}
@@ -14,7 +14,7 @@ use Rattle.rules.specs.Sorts.{sorted}
 use Rattle.rules.specs.EnumDeclarations.{tag_faults, tags_faults, range_at, ranges, before_at, overlap, overlaps, enum_faults, pass4_at}
 use Rattle.rules.specs.declared.Record.{Record}
 use Rattle.rules.specs.declared.Target.TheVariants.{Decl}
-use Rattle.table.proofs.Laws.{each_more, each-few, first-in, if-few, when-few}
+use Rattle.table.proofs.Laws.{each-few, first-in, if-few, when-few}
 use Rattle.enum_ranges.proofs.Sorts.{length-sorted}
 use Rattle.enum_ranges.proofs.overlaps.Laws.{overlap-few}
 use Rattle.enum_tags.proofs.Laws.{tag-few}
@@ -53,10 +53,7 @@ unfolding pass4_at
 place-few rs h d = if-few (eqb (at rs d).kind 3) _ _ 3000000 (enum-few rs d (member_count rs d) (le_trans (count-few rs d) h)) (omega arith)
 
 -- a table without an enum
-pub none-start : (rs : List Record) → each (pass4_at rs) 0 ≡ []
-unfolding each
-none-start rs = refl
-
-pub none_more : (rs : List Record) (d : ℕ) → each (pass4_at rs) d ≡ [] → ((at rs d).kind ≡ 3 → ⊥) → each (pass4_at rs) (d + 1) ≡ []
-unfolding pass4_at
-none_more rs d e h = each_more _ d ∙ rw (e, ne_eqb _ _ h)
+pub none_below : (rs : List Record) (n : ℕ) → ((d : ℕ) → d < n → (at rs d).kind ≡ 3 → ⊥) → each (pass4_at rs) n ≡ []
+unfolding each pass4_at
+none_below rs zero h = refl
+none_below rs (suc n) h = rw (none_below rs n (λ d l. h d (omega arith)), ne_eqb _ _ (h n (omega arith)))

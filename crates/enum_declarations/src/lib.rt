@@ -6,118 +6,97 @@ ghost use Rattle.rules.specs.Table.{decode};
 ghost use Rattle.rules.specs.Faults.{log, logged};
 ghost use Rattle.rules.specs.EnumDeclarations.{tags_faults, enum_faults, pass4_at, pass4};
 ghost use Rattle.faults.specs.Notes.{noted_all};
-ghost use Rattle.enum_bounds.specs.Bounds.{Bounds};
-ghost use Rattle.enum_tags.specs.Tags.{TagsMarked};
-ghost use Rattle.enum_declarations.specs.Enums.{Prepared};
 
+use enum_bounds::RangeBounds;
+use enum_tags::{EnumTags, MarkedTags};
 use repeats::marks::Compared;
 use rules::Tally;
 use rules::limits::MOST_RECORDS;
 
-// The tags of the enum at `decl`, which has `tags` of them. The first `ranges` numbers are the bounds of its ranges.
-fn note_tags(
-    table: &[u8],
-    names: &[u8],
-    values: &[u8],
-    lows: &[u64],
-    highs: &[u64],
-    ranges: usize,
-    decl: usize,
-    tags: usize,
-    tally: Tally,
-    buffer: &mut [u8],
-) -> Tally
-    requires { (decl + 1 + tags ≤ 1600) × (tally.total + 3000000 < 2 ^ 64) × Bounds (decode table.now) decl tags ranges lows.now highs.now × TagsMarked (decode table.now) names.now values.now }
-    ensures { log result buffer.new ≡ noted_all (log tally buffer.old) (tags_faults (decode table.now) decl tags) }
+// Room for the places of the ranges of an enum, and for their bounds.
+#[derive(Drop)]
+struct Room {
+    places: [u16; MOST_RECORDS],
+    lows: [u64; MOST_RECORDS],
+    highs: [u64; MOST_RECORDS],
+}
+
+// The tags of an enum.
+fn note_tags(tags: &EnumTags, tally: Tally, buffer: &mut [u8]) -> Tally
+    requires { (tags.now.decl + 1 + tags.now.count ≤ 1600) × (tally.total + 3000000 < 2 ^ 64) }
+    ensures { log result buffer.new ≡ noted_all (log tally buffer.old) (tags_faults (decode tags.now.marked.table.now) tags.now.decl tags.now.count) }
 {
     let mut kept = tally;
-    let mut after = decl + 1;
-    let mut i = 0;
-    while i < tags {
-        let p = decl + 1 + i;
-        kept = enum_tags::note_tag(
-            table, names, values, lows, highs, ranges, decl, tags, after, p, kept, buffer,
-        );
-        after = enum_tags::after_range(table, after, p);
-        i += 1;
+    let mut after = tags.decl + 1;
+    for i in 0..tags.count {
+        let p = tags.decl + 1 + i;
+        kept = enum_tags::note_tag(tags, after, p, kept, buffer);
+        after = enum_tags::after_range(tags.marked.table, after, p);
     }
     kept
 }
 
-// The enum at `decl`, which has `tags` tags: the tags, and then the ranges. 1,600 tags have at most 1,600 × 1,603 faults, and 1,600 overlaps.
+// The enum at `decl`, which has `count` tags: the tags, and then the ranges. 1,600 tags have at most 1,600 × 1,603 faults, and 1,600 overlaps.
 fn note_enum(
-    table: &[u8],
-    names: &[u8],
-    values: &[u8],
+    marked: &MarkedTags,
     decl: usize,
-    tags: usize,
-    places: &mut [u16],
-    lows: &mut [u64],
-    highs: &mut [u64],
+    count: usize,
+    room: &mut Room,
     tally: Tally,
     buffer: &mut [u8],
 ) -> Tally
-    requires { (decl + 1 + tags ≤ 1600) × (tally.total + 4000000 < 2 ^ 64) × Prepared (decode table.now) names.now values.now places.old lows.old highs.old }
-    ensures { log result buffer.new ≡ noted_all (log tally buffer.old) (enum_faults (decode table.now) decl tags) }
+    requires { (decl + 1 + count ≤ 1600) × (tally.total + 4000000 < 2 ^ 64) }
+    ensures { log result buffer.new ≡ noted_all (log tally buffer.old) (enum_faults (decode marked.now.table.now) decl count) }
 {
-    let m = enum_ranges::arrange(table, decl, tags, places, lows, highs);
-    let kept = note_tags(
-        table, names, values, lows, highs, m, decl, tags, tally, buffer,
+    let m = enum_ranges::arrange(
+        marked.table,
+        decl,
+        count,
+        &mut room.places,
+        &mut room.lows,
+        &mut room.highs,
     );
-    enum_ranges::overlaps::note_overlaps(table, places, m, kept, buffer)
+    let marked = *marked;
+    let bounds = RangeBounds {
+        lows: &room.lows[..m],
+        highs: &room.highs[..m],
+    };
+    let tags = EnumTags {
+        marked,
+        decl,
+        count,
+        bounds,
+    };
+    let kept = note_tags(&tags, tally, buffer);
+    enum_ranges::overlaps::note_overlaps(marked.table, &room.places[..m], kept, buffer)
 }
 
 // What stands at `decl`, if it is an enum.
 fn note_place(
-    table: &[u8],
-    names: &[u8],
-    values: &[u8],
+    marked: &MarkedTags,
     decl: usize,
-    places: &mut [u16],
-    lows: &mut [u64],
-    highs: &mut [u64],
+    room: &mut Room,
     tally: Tally,
     buffer: &mut [u8],
 ) -> Tally
-    requires { (decl < length (decode table.now)) × (length (decode table.now) ≤ 1600) × (tally.total + 4000000 < 2 ^ 64) × Prepared (decode table.now) names.now values.now places.old lows.old highs.old }
-    ensures { log result buffer.new ≡ noted_all (log tally buffer.old) (pass4_at (decode table.now) decl) }
+    requires { (decl < length (decode marked.now.table.now)) × (length (decode marked.now.table.now) ≤ 1600) × (tally.total + 4000000 < 2 ^ 64) }
+    ensures { log result buffer.new ≡ noted_all (log tally buffer.old) (pass4_at (decode marked.now.table.now) decl) }
 {
-    if table::kind(table, decl) != kinds::ENUM {
+    if table::kind(marked.table, decl) != kinds::ENUM {
         return tally;
     }
-    note_enum(
-        table,
-        names,
-        values,
-        decl,
-        search::members::member_count(table, decl),
-        places,
-        lows,
-        highs,
-        tally,
-        buffer,
-    )
+    let count = search::members::member_count(marked.table, decl);
+    note_enum(marked, decl, count, room, tally, buffer)
 }
 
-// All enums. `places` is room for the places of an enum's ranges, lows and highs for their bounds.
-fn note_enums(
-    table: &[u8],
-    names: &[u8],
-    values: &[u8],
-    places: &mut [u16],
-    lows: &mut [u64],
-    highs: &mut [u64],
-    buffer: &mut [u8],
-) -> Tally
-    requires { (length (decode table.now) ≤ 1600) × Prepared (decode table.now) names.now values.now places.old lows.old highs.old }
-    ensures { log result buffer.new ≡ logged buffer.old (pass4 (decode table.now)) }
+// All enums.
+fn note_enums(marked: &MarkedTags, room: &mut Room, buffer: &mut [u8]) -> Tally
+    requires { length (decode marked.now.table.now) ≤ 1600 }
+    ensures { log result buffer.new ≡ logged buffer.old (pass4 (decode marked.now.table.now)) }
 {
-    let n = table::count(table);
     let mut tally = faults::no_faults();
-    let mut d = 0;
-    while d < n {
-        tally = note_place(table, names, values, d, places, lows, highs, tally, buffer);
-        d += 1;
+    for d in 0..table::count(marked.table) {
+        tally = note_place(marked, d, room, tally, buffer);
     }
     tally
 }
@@ -126,15 +105,7 @@ fn note_enums(
 fn has_enum(table: &[u8]) -> bool
     ensures { result ≡ false → pass4 (decode table.now) ≡ [] }
 {
-    let n = table::count(table);
-    let mut d = 0;
-    while d < n {
-        if table::kind(table, d) == kinds::ENUM {
-            return true;
-        }
-        d += 1;
-    }
-    false
+    (0..table::count(table)).any(|d| table::kind(table, d) == kinds::ENUM)
 }
 
 // All faults of pass 4, with arrays for the longest table.
@@ -144,14 +115,19 @@ fn check_all(table: &[u8], buffer: &mut [u8]) -> Tally
 {
     let mut names = [1u8; MOST_RECORDS];
     let mut values = [1u8; MOST_RECORDS];
-    let mut s = [0u16; MOST_RECORDS];
-    let mut lows = [0u64; MOST_RECORDS];
-    let mut highs = [0u64; MOST_RECORDS];
+    let mut room = Room {
+        places: [0; MOST_RECORDS],
+        lows: [0; MOST_RECORDS],
+        highs: [0; MOST_RECORDS],
+    };
     repeats::marks::mark(table, Compared::TagNames, &mut names);
     repeats::marks::mark(table, Compared::TagValues, &mut values);
-    note_enums(
-        table, &names, &values, &mut s, &mut lows, &mut highs, buffer,
-    )
+    let marked = MarkedTags {
+        table,
+        names: &names,
+        values: &values,
+    };
+    note_enums(&marked, &mut room, buffer)
 }
 
 // All faults of pass 4. Without a bound on the table their number, which grows with the product of values and ranges, would not fit the

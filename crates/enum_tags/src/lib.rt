@@ -34,11 +34,11 @@ pub struct MarkedTags<'a> {
 
 // The tags of the enum at `decl`, which has `count` of them, with the bounds of its ranges.
 #[derive(Clone, Copy)]
-pub struct EnumTags<'a> {
+pub struct EnumTags<'a, 'b> {
     pub marked: MarkedTags<'a>,
     pub decl: usize,
     pub count: usize,
-    pub bounds: RangeBounds<'a>,
+    pub bounds: RangeBounds<'b>,
     pub ghost few: { count ≤ 1600 },
     pub ghost bounded: { Bounds (decode marked.table.now) decl count bounds.lows.now bounds.highs.now } by { Prim.hlevel props },
 }

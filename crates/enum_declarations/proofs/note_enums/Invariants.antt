@@ -1,7 +1,5 @@
 -- `enum_declarations::note_enums` meets its contract: after d turns the faults of the places below d are noted. Assumes nothing.
-use Prim.Native.Nat.{◌-◌, ◌≤◌}
 use mathlib.Core.Path.{◌≡◌}
-use lib.ListN.{length}
 use Rattle.rules.specs.Table.{decode}
 use Rattle.rules.specs.Places.{each}
 use Rattle.rules.specs.Faults.{log}
@@ -10,9 +8,4 @@ use Rattle.faults.specs.Notes.{no_faults, noted_all}
 use Rattle.enum_declarations.proofs.note_enums.Given as goal
 
 abbrev pub invariant-loop-d : goal.invariant-loop-d
-invariant-loop-d l =
-    (log l.tally l.buffer ≡ noted_all (log no_faults l.initial.buffer) (each (pass4_at (decode l.table)) l.d)) × (l.d ≤ l.n) × (l.n ≡ length (decode l.table))
-    × (length l.buffer ≡ length l.initial.buffer) × (length l.places ≡ length l.initial.places) × (length l.lows ≡ length l.initial.lows) × (length l.highs ≡ length l.initial.highs)
-
-abbrev pub decreases-loop-d : goal.decreases-loop-d
-decreases-loop-d l = l.n - l.d
+invariant-loop-d l = log l.tally l.buffer ≡ noted_all (log no_faults l.initial.buffer) (each (pass4_at (decode l.marked.table.now)) l.d)

@@ -12,9 +12,9 @@ returns-then-kind-ne-ENUM c =
 
 pub note_enum-requires : goal.note_enum-requires
 note_enum-requires c =
-    (omega (arith, c.requires, c.member_count.ensures), c.requires.2, c.requires.3)
+    (omega (arith, c.requires, c.member_count-count.ensures), c.requires.2)
 
 pub returns : goal.returns
 unfolding pass4_at
 returns c =
-    rw (← c.kind.ensures, eq-eqb _ _ c.if-kind-ne-ENUM.false, ← c.member_count.ensures.0) c.note_enum.ensures
+    rw (← c.kind.ensures, eq-eqb _ _ c.if-kind-ne-ENUM.false, ← c.member_count-count.ensures.0) c.note_enum.ensures

@@ -13,21 +13,21 @@ use Rattle.enum_declarations.proofs.note_tags.Goals as goal
 
 pub loop-i-init : goal.loop-i-init
 loop-i-init c =
-    (noted-start _ _, search rules, refl, ap (λ (p : ℕ). range_before (decode c.args.table.now) p) (add-zero (c.args.decl + 1)))
+    (noted-start _ _, ap (λ (p : ℕ). range_before (decode c.args.tags.now.marked.table.now) p) (add-zero (c.args.tags.now.decl + 1)))
 
 pub note_tag-kept-requires : goal.note_tag-kept-requires
 note_tag-kept-requires c =
-    let few = tag-few (decode c.args.table.now) c.args.decl c.args.tags in
-    let total = each-total _ 1603 c.loop-i.i _ _ (λ i. few (c.args.decl + 1 + i) (search rules)) c.loop-i.invariant.0 in
-    (search rules, omega arith, search rules, search rules, search rules)
+    let few = tag-few (decode c.args.tags.now.marked.table.now) c.args.tags.now.decl c.args.tags.now.count in
+    let total = each-total _ 1603 c.loop-i.i _ _ (λ i. few (c.args.tags.now.decl + 1 + i) (search rules)) c.loop-i.invariant.0 in
+    (omega arith, search rules)
 
 pub loop-i-preserved : goal.loop-i-preserved
 loop-i-preserved c =
-    let next = ap (λ (p : ℕ). range_before (decode c.args.table.now) p) (sym (add_assoc (c.args.decl + 1) c.loop-i.i 1)) in
+    let next = ap (λ (p : ℕ). range_before (decode c.args.tags.now.marked.table.now) p) (sym (add_assoc (c.args.tags.now.decl + 1) c.loop-i.i 1)) in
     let noted = noted-place _ c.loop-i.i _ _ c.loop-i.invariant.0 refl c.note_tag-kept.ensures in
-    (noted, search rules, search rules, next ∙ c.after_range-after.ensures)
+    (noted, next ∙ c.after_range-after.ensures)
 
 pub returns : goal.returns
 unfolding tags_faults
 returns c =
-    noted-end _ _ c.loop-i.invariant.0 c.loop-i.invariant.1 c.loop-i-test.false refl
+    noted-end _ _ c.loop-i.invariant.0 (search rules) c.loop-i-test.false refl

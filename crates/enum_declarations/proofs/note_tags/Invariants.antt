@@ -1,7 +1,6 @@
 -- `enum_declarations::note_tags` meets its contract: after i turns the faults of the first i tags are noted. Assumes nothing.
-use Prim.Native.Nat.{◌+◌, ◌-◌, ◌≤◌}
+use Prim.Native.Nat.{◌+◌}
 use mathlib.Core.Path.{◌≡◌}
-use lib.ListN.{length}
 use Rattle.rules.specs.Table.{decode}
 use Rattle.rules.specs.Places.{each}
 use Rattle.rules.specs.Faults.{log}
@@ -12,8 +11,5 @@ use Rattle.enum_declarations.proofs.note_tags.Given as goal
 
 abbrev pub invariant-loop-i : goal.invariant-loop-i
 invariant-loop-i l =
-    (log l.kept l.buffer ≡ noted_all (log l.initial.kept l.initial.buffer) (each (λ j. tag_faults (decode l.table) l.decl l.tags (l.decl + 1 + j)) l.i)) × (l.i ≤ l.tags) × (length l.buffer ≡ length l.initial.buffer)
-    × (range_before (decode l.table) (l.decl + 1 + l.i) ≡ range_before (decode l.table) l.after)
-
-abbrev pub decreases-loop-i : goal.decreases-loop-i
-decreases-loop-i l = l.tags - l.i
+    (log l.kept l.buffer ≡ noted_all (log l.initial.kept l.initial.buffer) (each (λ j. tag_faults (decode l.tags.marked.table.now) l.tags.decl l.tags.count (l.tags.decl + 1 + j)) l.i))
+    × (range_before (decode l.tags.marked.table.now) (l.tags.decl + 1 + l.i) ≡ range_before (decode l.tags.marked.table.now) l.after)
