@@ -4,6 +4,7 @@ ghost use Rattle.rules.specs.Table.{decode};
 ghost use Rattle.declarations.specs.Starts.{Starts};
 ghost use Rattle.rules.specs.DeclIdentifiers.{group_reference, type_reference, field_reference};
 
+use crate::named_reference;
 use declarations::decl_named;
 use rules::{Reference, codes};
 
@@ -11,34 +12,32 @@ use rules::{Reference, codes};
 fn group_reference(table: &[u8], place: usize, found: Option<usize>) -> Reference
     ensures { result ≡ group_reference (decode table.now) place found }
 {
-    match found {
-        Some(e) => {
-            if table::kind(table, e) == kinds::GROUP {
-                Reference::Follow(e)
-            } else {
-                Reference::Wrong(codes::INVALID_GROUP_IDENTIFIER, place)
-            }
-        }
-        None => Reference::Wrong(codes::UNDECLARED_GROUP_IDENTIFIER, place),
-    }
+    let missing = codes::UNDECLARED_GROUP_IDENTIFIER;
+    let invalid = codes::INVALID_GROUP_IDENTIFIER;
+    named_reference(
+        place,
+        found,
+        missing,
+        invalid,
+        true,
+        |e| table::kind(table, e) == kinds::GROUP,
+    )
 }
 
 // The Typedef or typed array at `place`, which may be checked and not followed.
 fn type_reference(followed: bool, table: &[u8], place: usize, found: Option<usize>) -> Reference
     ensures { result ≡ type_reference followed (decode table.now) place found }
 {
-    match found {
-        Some(e) => {
-            if table::kind(table, e) == kinds::PACKET {
-                Reference::Wrong(codes::INVALID_TYPE_IDENTIFIER, place)
-            } else if followed {
-                Reference::Follow(e)
-            } else {
-                Reference::Nowhere
-            }
-        }
-        None => Reference::Wrong(codes::UNDECLARED_TYPE_IDENTIFIER, place),
-    }
+    let missing = codes::UNDECLARED_TYPE_IDENTIFIER;
+    let invalid = codes::INVALID_TYPE_IDENTIFIER;
+    named_reference(
+        place,
+        found,
+        missing,
+        invalid,
+        followed,
+        |e| table::kind(table, e) != kinds::PACKET,
+    )
 }
 
 // The record at `place`, as a field.

@@ -3,45 +3,67 @@
 
 pub mod field_references;
 
-ghost use Rattle.std.specs.Prelude.{◌≡◌};
+ghost use Rattle.std.specs.Prelude.{◌≡◌, ℕ, Bool, Option};
 ghost use Rattle.rules.specs.Table.{decode};
 ghost use Rattle.declarations.specs.Starts.{Starts};
+ghost use Rattle.decl_references.specs.Named.{named_reference};
 ghost use Rattle.rules.specs.DeclIdentifiers.{parent_reference, test_reference, own_reference, root_reference};
 
 use declarations::decl_named;
 use rules::{Reference, codes};
 
+// What the name at `place` refers to, by the declaration found: `missing` is the code where there is none, `invalid` where it
+// is not allowed. An allowed one is followed, or only checked.
+fn named_reference<F: Fn(usize) -> bool>(
+    place: usize,
+    found: Option<usize>,
+    missing: u16,
+    invalid: u16,
+    followed: bool,
+    allowed: F,
+) -> Reference
+    requires { F.IsAlwaysCallable allowed }
+    ensures { (f : ℕ → Bool) → ((e : ℕ) (b : Bool) → F.post allowed e b → b ≡ f e) → result ≡ named_reference missing invalid followed f place found }
+{
+    match found {
+        None => Reference::Wrong(missing, place),
+        Some(e) if !allowed(e) => Reference::Wrong(invalid, place),
+        Some(e) if followed => Reference::Follow(e),
+        Some(_) => Reference::Nowhere,
+    }
+}
+
 // The parent of the declaration at `decl`.
 fn parent_reference(table: &[u8], decl: usize, found: Option<usize>) -> Reference
     ensures { result ≡ parent_reference (decode table.now) decl found }
 {
-    match found {
-        Some(e) => {
-            let k = table::kind(table, decl);
-            if table::kind(table, e) == k {
-                Reference::Follow(e)
-            } else {
-                Reference::Wrong(codes::INVALID_PARENT_IDENTIFIER, decl)
-            }
-        }
-        None => Reference::Wrong(codes::UNDECLARED_PARENT_IDENTIFIER, decl),
-    }
+    let missing = codes::UNDECLARED_PARENT_IDENTIFIER;
+    let invalid = codes::INVALID_PARENT_IDENTIFIER;
+    let kind = table::kind(table, decl);
+    named_reference(
+        decl,
+        found,
+        missing,
+        invalid,
+        true,
+        |e| table::kind(table, e) == kind,
+    )
 }
 
-// The packet of the test at `place`.
+// The packet of the test at `place`, which is checked and not followed.
 fn test_reference(table: &[u8], place: usize, found: Option<usize>) -> Reference
     ensures { result ≡ test_reference (decode table.now) place found }
 {
-    match found {
-        Some(e) => {
-            if table::kind(table, e) == kinds::PACKET {
-                Reference::Nowhere
-            } else {
-                Reference::Wrong(codes::INVALID_TEST_IDENTIFIER, place)
-            }
-        }
-        None => Reference::Wrong(codes::UNDECLARED_TEST_IDENTIFIER, place),
-    }
+    let missing = codes::UNDECLARED_TEST_IDENTIFIER;
+    let invalid = codes::INVALID_TEST_IDENTIFIER;
+    named_reference(
+        place,
+        found,
+        missing,
+        invalid,
+        false,
+        |e| table::kind(table, e) == kinds::PACKET,
+    )
 }
 
 // The declaration at `decl`, by its parent's name.
