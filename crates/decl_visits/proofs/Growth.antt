@@ -1,22 +1,21 @@
 -- What a visit leaves unvisited, and how far the list and the faults can grow by it. Assumes nothing.
-use mathlib.Core.Path.{◌≡◌, refl, sym, ◌∙◌, ap}
-use mathlib.Core.Bool.{Bool, true, false, not}
+use mathlib.Core.Path.{◌≡◌, refl, ◌∙◌, ap}
+use mathlib.Core.Bool.{Bool, true, false}
 use mathlib.Core.List.{List, [], ◌∷◌}
 use Prim.Native.Nat.{ℕ, zero, suc, ◌+◌, ◌*◌, ◌-◌, ◌<◌, ◌≤◌, zero-le}
 use native.Mathlib.Nat.{le_refl}
 use native.Mathlib.Omega.{arith}
-use borrow.Author.Tests.{not-true, eqb-true, ltb-true, lt-ltb}
-use lib.Dec.{eqb, ltb}
+use borrow.Author.Tests.{eqb-true}
+use lib.Dec.{eqb}
 use lib.ListN.{length, get_or, set, replicate, length-append, length-set}
 use Rattle.rules.specs.declared.Reference.{Reference}
 use Rattle.rules.specs.declared.Reference.TheVariants.{Nowhere, Wrong, Follow}
 use Rattle.rules.specs.Visits.{State, mark_of, opened, faulted, resolve, walk, enter, visit}
-use Rattle.table.proofs.Searches.{and-true}
 use Rattle.rules.specs.Kinds.{is_decl}
 use Rattle.rules.specs.Table.{at}
 use Rattle.rules.specs.DeclIdentifiers.{field_reference, field_references, references}
 use Rattle.rules.specs.declared.Record.{Record}
-use Rattle.decl_visits.specs.Contract.{unvisited_count, member_at}
+use Rattle.decl_visits.specs.Contract.{unvisited_count}
 
 -- a mark set to anything but 0 leaves no more places unvisited
 pub unvisited-set : (l : List ℕ) (d v : ℕ) → unvisited_count (set l d (suc v)) ≤ unvisited_count l
@@ -100,25 +99,18 @@ visit-growth f short (suc k) d s =
     enter-growth (eqb (mark_of s d) 0) (eqb (mark_of s d) 1) (visit k f) (visit-growth f short k) (f d) (short d) d s (eqb-true (mark_of s d) 0)
 
 -- one step of the fields
-pub member_below : (rs : List Record) (p : ℕ) → member_at rs p ≡ true → p < length rs
-member_below rs p e = ltb-true p (length rs) (and-true (ltb p (length rs)) (not (is_decl (at rs p).kind)) e).0
-
-pub fields-one : (rs : List Record) (p : ℕ) → member_at rs p ≡ true → field_references rs p (length rs - p) ≡ field_reference rs p ∷ field_references rs (p + 1) (length rs - (p + 1))
+pub fields-one : (rs : List Record) (p : ℕ) → p < length rs → is_decl (at rs p).kind ≡ false → field_references rs p (length rs - p) ≡ field_reference rs p ∷ field_references rs (p + 1) (length rs - (p + 1))
 unfolding field_references
-fields-one rs p e =
-    let b = and-true (ltb p (length rs)) (not (is_decl (at rs p).kind)) e in
-    let l = ltb-true p (length rs) b.0 in
-    let z : length rs - p ≡ suc (length rs - (p + 1)) = omega arith in
-    rw (z, field_references, not-true (is_decl (at rs p).kind) b.1)
+fields-one rs p l e = let z : length rs - p ≡ suc (length rs - (p + 1)) = omega arith in rw (z, field_references, e)
 
-pub fields-none : (rs : List Record) (p : ℕ) → member_at rs p ≡ false → field_references rs p (length rs - p) ≡ []
+pub fields-decl : (rs : List Record) (p j : ℕ) → is_decl (at rs p).kind ≡ true → field_references rs p j ≡ []
 unfolding field_references
-fields-none rs p e = go (length rs - p) refl (is_decl (at rs p).kind) refl
-  where
-    go : (j : ℕ) → length rs - p ≡ j → (b : Bool) → is_decl (at rs p).kind ≡ b → field_references rs p j ≡ []
-    go zero z b h = refl
-    go (suc j) z true h = rw (field_references, h)
-    go (suc j) z false h = let q : false ≡ true = sym e ∙ rw (h, lt-ltb p (length rs) (omega arith)) in let y : ◌≡◌ {A = ℕ} 0 1 = cc in absurd (omega arith)
+fields-decl rs p zero e = refl
+fields-decl rs p (suc j) e = rw (field_references, e)
+
+pub fields-past : (rs : List Record) (p : ℕ) → length rs ≤ p → field_references rs p (length rs - p) ≡ []
+unfolding field_references
+fields-past rs p l = let z : length rs - p ≡ 0 = omega arith in rw z
 
 -- the fields among j places have at most j references
 pub fields-length : (rs : List Record) (p j : ℕ) → length (field_references rs p j) ≤ j

@@ -1,4 +1,3 @@
 pub mod Growth
-pub mod Skips
 pub mod VisitReady
 pub mod Loop

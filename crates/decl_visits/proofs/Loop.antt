@@ -9,13 +9,14 @@ use Rattle.rules.specs.Faults.{log}
 use Rattle.rules.specs.Visits.{State, resolve, walk, visit, unvisited, visit_all}
 use Rattle.rules.specs.DeclIdentifiers.{references, root_reference, root_references, visited}
 use Rattle.rules.specs.declared.Record.{Record}
+use Rattle.rules.specs.declared.Reference.{Reference}
 use Rattle.rules.specs.declared.Tally.{Tally}
 use Rattle.faults.specs.Notes.{no_faults}
 use Rattle.faults.proofs.Laws.{noted-none}
 use Rattle.decl_visits.specs.declared.VisitProgress.{VisitProgress}
-use Rattle.decl_visits.specs.Contract.{unvisited_count, StateHeld, VisitReady, Visited}
+use Rattle.decl_visits.specs.Contract.{unvisited_count, StateHeld, VisitReady, Within, Visited}
 use Rattle.decl_visits.proofs.Growth.{unvisited-all, resolve-growth, walk-growth, visit-growth, references-length}
-use Rattle.decl_visits.proofs.VisitReady.{after}
+use Rattle.decl_visits.proofs.VisitReady.{after, within-root}
 
 unvisited-few : (l : List ℕ) → unvisited_count l ≤ length l
 unfolding unvisited_count
@@ -36,8 +37,6 @@ pub record Turn (rs : List Record) (o₀ f₀ m o f : List ℕ) (a : VisitProgre
   pub spare : a.tally.total + unvisited_count m * 2048 + (length rs - p) < 2 ^ 63
   pub below : p ≤ length rs
   pub rest : rest_of rs p state ≡ visited rs
-  pub places-long : length o ≡ length o₀
-  pub buffer-long : length f ≡ length f₀
 
 pub loop-start : (rs : List Record) (m o f : List ℕ) (a : VisitProgress) → length rs ≤ 1600 → m ≡ replicate (length rs) 0 → length rs ≤ length o
     → a.listed ≡ 0 → a.tally ≡ no_faults → Turn rs o f m o f a 0
@@ -59,8 +58,6 @@ loop-start rs m o f a few e room l g =
       spare = omega arith;
       below = zero-le;
       rest = let y : length rs - 0 ≡ length rs = omega arith in rw y;
-      places-long = refl;
-      buffer-long = refl;
     }
 
 module _ (rs : List Record) (o₀ f₀ m o f : List ℕ) (a : VisitProgress) (p : ℕ) (h : Turn rs o₀ f₀ m o f a p) where
@@ -86,13 +83,13 @@ module _ (rs : List Record) (o₀ f₀ m o f : List ℕ) (a : VisitProgress) (p 
       subst (λ (s : State). StateHeld rs o₀ f₀ s m o f a) e h.held
 
   module _ (l : p < length rs) where
-    pub loop-call : VisitReady rs m o f a 1 0
-    loop-call = ready 1 (omega arith)
+    pub loop-call : {r : Reference} → r ≡ root_reference rs p → Within (length rs) r × VisitReady rs m o f a 1 0
+    loop-call e = (rw e (within-root rs p l), ready 1 (omega arith))
 
-    pub loop-turn : (m' o' f' : List ℕ) (a' : VisitProgress) → Visited rs (root_reference rs p) m o f a m' o' f' a' → length o' ≡ length o → length f' ≡ length f
-        → Turn rs o₀ f₀ m' o' f' a' (p + 1)
+    pub loop-turn : {r : Reference} → r ≡ root_reference rs p → (m' o' f' : List ℕ) (a' : VisitProgress) → Visited rs r m o f a m' o' f' a' → length o' ≡ length o → Turn rs o₀ f₀ m' o' f' a' (p + 1)
     unfolding walk root_references ready
-    loop-turn m' o' f' a' v lo lf =
+    loop-turn e m' o' f' a' v' lo =
+        let v = rw e at v' in
         let n = unvisited-few m in
         let w = h.size in
         let k = suc (length rs) in
@@ -110,8 +107,6 @@ module _ (rs : List Record) (o₀ f₀ m o f : List ℕ) (a : VisitProgress) (p 
           spare = r.spare;
           below = omega arith;
           rest = rw z at h.rest;
-          places-long = lo ∙ h.places-long;
-          buffer-long = lf ∙ h.buffer-long;
         }
 
 -- no more places are listed than the table has

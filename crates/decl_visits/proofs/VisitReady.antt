@@ -2,7 +2,7 @@
 use mathlib.Core.Path.{◌≡◌, refl, sym, ◌∙◌, ap}
 use mathlib.Core.Bool.{Bool, true, false, ◌&&◌}
 use mathlib.Core.List.{List, [], ◌∷◌, ◌++◌, map, map-append}
-use Prim.Native.Nat.{ℕ, zero, suc, ◌+◌, ◌*◌, ◌-◌, ◌^◌, ◌<◌, ◌≤◌}
+use Prim.Native.Nat.{ℕ, zero, suc, ◌+◌, ◌*◌, ◌-◌, ◌<◌, ◌≤◌}
 use native.Mathlib.Nat.{lt-suc_self, add-zero, zero-add}
 use native.Mathlib.Omega.{arith}
 use borrow.Author.Tests.{ne_eqb}
@@ -11,7 +11,7 @@ use lib.ListN.{length, get_or, set, length-append, length-set, length-map}
 use lib.Seq.{sets}
 use Rattle.std.specs.Prelude.{if◌then◌else◌, None, Option, Some, ℕ}
 use Rattle.rules.specs.Kinds as kind
-use Rattle.rules.specs.Kinds.{is, is_named_decl, is_packet_or_struct}
+use Rattle.rules.specs.Kinds.{is, is_decl, may_refer, is_named_decl, is_packet_or_struct}
 use Rattle.rules.specs.Table.{at, bit1, named}
 use Rattle.rules.specs.Places.{holds_at, decl_named}
 use Rattle.rules.specs.Faults.{single, log}
@@ -26,9 +26,10 @@ use Rattle.faults.specs.Notes as notes
 use Rattle.faults.specs.Notes.{no_faults}
 use Rattle.faults.proofs.Laws.{noted-then, noted_one, total-after}
 use Rattle.table.proofs.Laws.{first-in}
+use Rattle.table.proofs.Searches.{false-true}
 use Rattle.decl_visits.specs.declared.VisitProgress.{VisitProgress}
-use Rattle.decl_visits.specs.Contract.{unvisited_count, member_at, StateHeld, VisitReady, Visited, Walked, Skipped}
-use Rattle.decl_visits.proofs.Growth.{Growth, member_below, unvisited-opened, get_d_any, resolve-growth, walk-growth, visit-growth, fields-one, fields-none, fields-length, references-length}
+use Rattle.decl_visits.specs.Contract.{unvisited_count, StateHeld, VisitReady, Within, Visited, Walked}
+use Rattle.decl_visits.proofs.Growth.{Growth, unvisited-opened, get_d_any, resolve-growth, walk-growth, visit-growth, fields-one, fields-decl, fields-past, fields-length, references-length}
 
 -- ---- how each step of the code changes the state that the slices hold
 
@@ -167,12 +168,6 @@ module _ (rs : List Record) (m o f : List ℕ) (a : VisitProgress) where
 
 -- ---- a declaration to visit stands in the table
 
--- a declaration to visit stands below n
-abbrev pub Within : ℕ → Reference → Type 0
-Within n Nowhere = Unit {0}
-Within n (Wrong c p) = Unit {0}
-Within n (Follow d) = d < n
-
 guard : (n : ℕ) (b : Bool) (x y : Reference) → Within n x → Within n y → Within n (if b then x else y)
 guard n true x y h k = h
 guard n false x y h k = k
@@ -250,12 +245,17 @@ visit-listed : (f : ℕ → List Reference) (k d : ℕ) (s : State) → ¬ (mark
 unfolding visit enter
 visit-listed f k d s e g = rw (ne_eqb (mark_of s d) 0 e, ne_eqb (mark_of s d) 1 g, visit)
 
+-- a field of a kind that refers to nothing
+nowhere : (rs : List Record) (p : ℕ) → may_refer (at rs p).kind ≡ false → field_reference rs p ≡ Nowhere
+unfolding field_reference
+nowhere rs p e = rw (other 34 refl, other 33 refl, other 30 refl)
+  where
+    other : (k : ℕ) → may_refer k ≡ true → eqb (at rs p).kind k ≡ false
+    other k h = ne_eqb (at rs p).kind k (λ i. false-true (sym e ∙ ap may_refer i ∙ h))
+
 -- ---- the returns
 
 module _ (rs : List Record) (m o f : List ℕ) (a : VisitProgress) where
-  visited-nowhere : Visited rs Nowhere m o f a m o f a
-  visited-nowhere k o₀ f₀ s n h = h
-
   visited-wrong : (c p : ℕ) (f' : List ℕ) (b : VisitProgress) → Noted rs f a c p f' b → Visited rs (Wrong c p) m o f a m o f' b
   visited-wrong c p f' b e k o₀ f₀ s n h = held-note rs o₀ f₀ s m o f a h c p f' b e
 
@@ -283,40 +283,33 @@ module _ (rs : List Record) (m o f : List ℕ) (a : VisitProgress) where
       (v k o₀ f₀ _ (omega arith) (w k o₀ f₀ (opened d s) (omega arith) (held-open rs o₀ f₀ s m o f a h d)))
       d z p q)
 
-  walked_skip : {p q : ℕ} {m' o' f' : List ℕ} {b : VisitProgress} → Skipped rs p q → Walked rs q m o f a m' o' f' b → Walked rs p m o f a m' o' f' b
-  walked_skip i w k o₀ f₀ s n h = rw (i.same (visit k (references rs)) s) (w k o₀ f₀ s n h)
-
-  pub walked_end : {p q : ℕ} → Skipped rs p q → member_at rs q ≡ false → Walked rs p m o f a m o f a
+  walked_end : (p : ℕ) → field_references rs p (length rs - p) ≡ [] → Walked rs p m o f a m o f a
   unfolding walk
-  walked_end {p} {q} i e = walked_skip i (λ k o₀ f₀ s n h. rw (fields-none rs q e) h)
+  walked_end p e k o₀ f₀ s n h = rw e h
 
-  walked_more : (p : ℕ) → member_at rs p ≡ true
+  walked_skip : (p : ℕ) → p < length rs → is_decl (at rs p).kind ≡ false → field_reference rs p ≡ Nowhere
+      → {m' o' f' : List ℕ} {b : VisitProgress} → Walked rs (p + 1) m o f a m' o' f' b → Walked rs p m o f a m' o' f' b
+  unfolding walk
+  walked_skip p l e r w k o₀ f₀ s n h = rw (fields-one rs p l e, r) (w k o₀ f₀ s n h)
+
+  walked_more : (p : ℕ) → p < length rs → is_decl (at rs p).kind ≡ false
       → (m₁ o₁ f₁ : List ℕ) (b : VisitProgress) → Visited rs (field_reference rs p) m o f a m₁ o₁ f₁ b → unvisited_count m₁ ≤ unvisited_count m
       → (m₂ o₂ f₂ : List ℕ) (z : VisitProgress) → Walked rs (p + 1) m₁ o₁ f₁ b m₂ o₂ f₂ z
       → Walked rs p m o f a m₂ o₂ f₂ z
   unfolding walk
-  walked_more p e m₁ o₁ f₁ b v n₁ m₂ o₂ f₂ z w k o₀ f₀ s n h =
-      rw (fields-one rs p e) (w k o₀ f₀ (resolve (visit k (references rs)) (field_reference rs p) s) (omega arith) (v k o₀ f₀ s n h))
+  walked_more p l e m₁ o₁ f₁ b v n₁ m₂ o₂ f₂ z w k o₀ f₀ s n h =
+      rw (fields-one rs p l e) (w k o₀ f₀ (resolve (visit k (references rs)) (field_reference rs p) s) (omega arith) (v k o₀ f₀ s n h))
 
 -- ---- what each call requires and each return ensures
 
-pub follow-in : (rs : List Record) {r : Reference} {d : ℕ} → r ≡ Follow d → Within (length rs) r → d < length rs
-follow-in rs e w = rw e at w
-
 module _ (rs : List Record) (m o f : List ℕ) (a : VisitProgress) where
-  pub call-note : VisitReady rs m o f a 1 0 → a.tally.total + 1 < 2 ^ 64
-  call-note h = let s = h.spare in omega arith
-
   module _ {d : ℕ} (l : d < length rs) (h : VisitReady rs m o f a 1 0) where
-    pub mark-in : d < length m
+    mark-in : d < length m
     mark-in = let s = h.size in omega arith
 
-    pub next_fits : d + 1 < 2 ^ 64
-    next_fits = let w = h.few in omega arith
-
     module _ (e : get_or m d 0 ≡ 0) where
-      pub call-walk : {x : ℕ} → unvisited_count m * 2048 ≡ x
-          → (unvisited_count (set m d 1) * 2048 + 1 + (length rs - (d + 1)) < x) × VisitReady rs (set m d 1) o f a (length rs - (d + 1)) 0
+      pub call-walk : {x : ℕ} → unvisited_count m * 3 ≡ x
+          → (unvisited_count (set m d 1) * 3 + 2 < x) × VisitReady rs (set m d 1) o f a (length rs - (d + 1)) 0
       call-walk q =
           let n = open-unvisited rs m o f a d mark-in e in
           let w = h.few in
@@ -334,8 +327,8 @@ module _ (rs : List Record) (m o f : List ℕ) (a : VisitProgress) where
             (relax rs (set m d 1) o f a 2049 1 (1 + length (field_references rs (d + 1) (length rs - (d + 1)))) 1 (omega arith) (omega arith) (open-ready rs m o f a d mark-in e h))
             w lo
 
-        pub call-own : {q : Reference} {x : ℕ} → q ≡ own_reference rs d → unvisited_count m * 2048 ≡ x
-            → (unvisited_count m₁ * 2048 < x) × (Within (length rs) q × VisitReady rs m₁ o₁ f₁ b 1 0)
+        pub call-own : {q : Reference} {x : ℕ} → q ≡ own_reference rs d → unvisited_count m * 3 ≡ x
+            → (unvisited_count m₁ * 3 + 1 < x) × (Within (length rs) q × VisitReady rs m₁ o₁ f₁ b 1 0)
         call-own q y =
             let n = open-unvisited rs m o f a d mark-in e in
             let k = walked-falls in
@@ -366,57 +359,52 @@ module _ (rs : List Record) (m o f : List ℕ) (a : VisitProgress) where
   pub ret-follow : {r : Reference} {d : ℕ} {m' o' f' : List ℕ} {z : VisitProgress} → r ≡ Follow d → Visited rs (Follow d) m o f a m' o' f' z → Visited rs r m o f a m' o' f' z
   ret-follow re v = rw re v
 
-  pub ret-nowhere : {r : Reference} → r ≡ Nowhere → Visited rs r m o f a m o f a
-  ret-nowhere re = rw re (visited-nowhere rs m o f a)
-
   pub ret-wrong : {r : Reference} {c p : ℕ} {f' : List ℕ} {z : VisitProgress} → r ≡ Wrong c p → Noted rs f a c p f' z → Visited rs r m o f a m o f' z
   ret-wrong {r} {c} {p} {f'} {z} re e = rw re (visited-wrong rs m o f a c p f' z e)
 
-  -- the first field from p on that may refer to something stands at q
-  module _ {p q : ℕ} (i : Skipped rs p q) (here : member_at rs q ≡ true) (h : VisitReady rs m o f a (length rs - p) 0) where
-    field-ready : VisitReady rs m o f a (length rs - (q + 1) + 1) 0
-    field-ready =
-        let l = member_below rs q here in
-        let n = i.on in
-        relax rs m o f a (length rs - p) 0 (length rs - (q + 1) + 1) 0 (omega arith) (omega arith) h
+-- ---- the loop over the fields
 
-    visit-ready : VisitReady rs m o f a 1 0
-    visit-ready = relax rs m o f a (length rs - (q + 1) + 1) 0 1 0 (omega arith) (omega arith) field-ready
+-- the fields from p up to q are taken up: what is left makes the whole
+pub record Walking (rs : List Record) (p : ℕ) (m₀ o₀ f₀ : List ℕ) (a₀ : VisitProgress) (m o f : List ℕ) (a : VisitProgress) (q : ℕ) : Type 0 where
+  pub ready : VisitReady rs m o f a (length rs - q) 0
+  pub falls : unvisited_count m ≤ unvisited_count m₀
+  pub rest : (m' o' f' : List ℕ) (b : VisitProgress) → Walked rs q m o f a m' o' f' b → Walked rs p m₀ o₀ f₀ a₀ m' o' f' b
 
-    pub call-field : {r : Reference} {x : ℕ} → r ≡ field_reference rs q → unvisited_count m * 2048 + 1 + (length rs - p) ≡ x
-        → (unvisited_count m * 2048 < x) × (Within (length rs) r × VisitReady rs m o f a 1 0)
-    call-field e y = (omega arith, (rw e (within-field rs q), visit-ready))
+pub walk-start : (rs : List Record) (p : ℕ) (m o f : List ℕ) (a : VisitProgress) → VisitReady rs m o f a (length rs - p) 0 → Walking rs p m o f a m o f a p
+walk-start rs p m o f a h =
+    record { ready = h; falls = omega arith; rest = λ m' o' f' b w. w }
 
-    module _ {r : Reference} (re : r ≡ field_reference rs q) {m₁ o₁ f₁ : List ℕ} {b : VisitProgress} (v : Visited rs r m o f a m₁ o₁ f₁ b) (lo : length o₁ ≡ length o) where
-      pub call-rest : {x : ℕ} → unvisited_count m * 2048 + 1 + (length rs - p) ≡ x
-          → (unvisited_count m₁ * 2048 + 1 + (length rs - (q + 1)) < x) × VisitReady rs m₁ o₁ f₁ b (length rs - (q + 1)) 0
-      call-rest y =
-          let l = member_below rs q here in
-          let n = i.on in
-          let w = visit-falls rs m o f a m₁ o₁ f₁ b r visit-ready v in
-          (omega arith, after-visit rs m o f a m₁ o₁ f₁ b r (length rs - (q + 1)) 0 field-ready v lo)
+module _ (rs : List Record) {p q : ℕ} {m₀ o₀ f₀ : List ℕ} {a₀ : VisitProgress} {m o f : List ℕ} {a : VisitProgress} (i : Walking rs p m₀ o₀ f₀ a₀ m o f a q) where
+  pub walk-decl : is_decl (at rs q).kind ≡ true → Walked rs p m₀ o₀ f₀ a₀ m o f a
+  walk-decl e = i.rest m o f a (walked_end rs m o f a q (fields-decl rs q (length rs - q) e))
 
-      pub ret-more : {m₂ o₂ f₂ : List ℕ} {z : VisitProgress} → Walked rs (q + 1) m₁ o₁ f₁ b m₂ o₂ f₂ z → Walked rs p m o f a m₂ o₂ f₂ z
-      ret-more {m₂} {o₂} {f₂} {z} w =
-          walked_skip rs m o f a i
-          (walked_more rs m o f a q here m₁ o₁ f₁ b (rw re at v) (visit-falls rs m o f a m₁ o₁ f₁ b r visit-ready v) m₂ o₂ f₂ z w)
+  pub walk-past : length rs ≤ q → Walked rs p m₀ o₀ f₀ a₀ m o f a
+  walk-past l = i.rest m o f a (walked_end rs m o f a q (fields-past rs q l))
 
--- where the arms of a match on r meet, it is taken up, and the slices are as long as they were
-pub record Step (rs : List Record) (r : Reference) (m o f : List ℕ) (a : VisitProgress) (m' o' f' : List ℕ) (a' : VisitProgress) : Type 0 where
-  pub made : Visited rs r m o f a m' o' f' a'
-  pub marks-long : length m' ≡ length m
-  pub places-long : length o' ≡ length o
-  pub buffer-long : length f' ≡ length f
+  module _ (l : q < length rs) (e : is_decl (at rs q).kind ≡ false) where
+    pub walk-skip : may_refer (at rs q).kind ≡ false → Walking rs p m₀ o₀ f₀ a₀ m o f a (q + 1)
+    walk-skip r = record {
+      ready = relax rs m o f a (length rs - q) 0 (length rs - (q + 1)) 0 (omega arith) (omega arith) i.ready;
+      falls = i.falls;
+      rest = λ m' o' f' b w. i.rest m' o' f' b (walked_skip rs m o f a q l e (nowhere rs q r) w);
+    }
 
-module _ {rs : List Record} {m o f : List ℕ} {a : VisitProgress} {m₁ o₁ f₁ m₂ o₂ f₂ : List ℕ} {b b₂ : VisitProgress} (me : m₁ ≡ m₂) (oe : o₁ ≡ o₂) (fe : f₁ ≡ f₂) (be : b ≡ b₂) where
-  pub step-follow : {r : Reference} {e : ℕ} → r ≡ Follow e → Visited rs (Follow e) m o f a m₂ o₂ f₂ b₂ → length m₂ ≡ length m → length o₂ ≡ length o → length f₂ ≡ length f
-      → Step rs r m o f a m₁ o₁ f₁ b
-  step-follow re v lm lo lf = rw (re, me, oe, fe, be) (record { made = v; marks-long = lm; places-long = lo; buffer-long = lf })
+    walk-ready : VisitReady rs m o f a 1 0
+    walk-ready = relax rs m o f a (length rs - q) 0 1 0 (omega arith) (omega arith) i.ready
 
-module _ {rs : List Record} {m o f : List ℕ} {a : VisitProgress} {m₁ o₁ f₁ : List ℕ} {b : VisitProgress} (me : m₁ ≡ m) (oe : o₁ ≡ o) where
-  pub step-wrong : {r : Reference} {c p : ℕ} {f₂ : List ℕ} {b₂ : VisitProgress} → f₁ ≡ f₂ → b ≡ b₂ → r ≡ Wrong c p → Noted rs f a c p f₂ b₂ → length f₂ ≡ length f
-      → Step rs r m o f a m₁ o₁ f₁ b
-  step-wrong {r} fe be re n lf = rw (me, oe, fe, be) (record { made = ret-wrong rs m o f a re n; marks-long = refl; places-long = refl; buffer-long = lf })
+    pub walk-call : {r : Reference} {x : ℕ} → r ≡ field_reference rs q → unvisited_count m₀ * 3 + 2 ≡ x
+        → (unvisited_count m * 3 + 1 < x) × (Within (length rs) r × VisitReady rs m o f a 1 0)
+    walk-call r y = let n = i.falls in (omega arith, (rw r (within-field rs q), walk-ready))
 
-  pub step-nowhere : {r : Reference} → f₁ ≡ f → b ≡ a → r ≡ Nowhere → Step rs r m o f a m₁ o₁ f₁ b
-  step-nowhere {r} fe be re = rw (me, oe, fe, be) (record { made = ret-nowhere rs m o f a re; marks-long = refl; places-long = refl; buffer-long = refl })
+    pub walk-turn : {r : Reference} → r ≡ field_reference rs q → (m' o' f' : List ℕ) (b : VisitProgress) → Visited rs r m o f a m' o' f' b → length o' ≡ length o
+        → Walking rs p m₀ o₀ f₀ a₀ m' o' f' b (q + 1)
+    walk-turn r m' o' f' b v' lo =
+        let v = rw r at v' in
+        let n = visit-falls rs m o f a m' o' f' b (field_reference rs q) walk-ready v in
+        let n₀ = i.falls in
+        let h = relax rs m o f a (length rs - q) 0 (length rs - (q + 1) + 1) 0 (omega arith) (omega arith) i.ready in
+        record {
+          ready = after-visit rs m o f a m' o' f' b (field_reference rs q) (length rs - (q + 1)) 0 h v lo;
+          falls = omega arith;
+          rest = λ m₂ o₂ f₂ z w. i.rest m₂ o₂ f₂ z (walked_more rs m o f a q l e m' o' f' b v n m₂ o₂ f₂ z w);
+        }

@@ -1,13 +1,12 @@
 -- What the contracts of the visits say: which state the lent slices hold.
-use Rattle.std.specs.Prelude.{◌≡◌, Bool, ◌&&◌, not, List, [], ◌∷◌, map, ℕ, zero, suc, ◌+◌, ◌*◌, ◌-◌, ◌^◌, ◌<◌, ◌≤◌, ltb, length}
+use Rattle.std.specs.Prelude.{◌≡◌, List, [], ◌∷◌, map, ℕ, zero, suc, ◌+◌, ◌*◌, ◌-◌, ◌^◌, ◌<◌, ◌≤◌, length}
 use Rattle.std.proofs.lemmas.List.Edits.{sets}
-use Rattle.rules.specs.Kinds.{is_decl, may_refer}
-use Rattle.rules.specs.Table.{at}
 use Rattle.rules.specs.Faults.{log}
 use Rattle.rules.specs.Visits.{State, resolve, walk, visit}
 use Rattle.rules.specs.DeclIdentifiers.{references, field_references, fault_of}
 use Rattle.rules.specs.declared.Record.{Record}
 use Rattle.rules.specs.declared.Reference.{Reference}
+use Rattle.rules.specs.declared.Reference.TheVariants.{Nowhere, Wrong, Follow}
 use Rattle.faults.specs.Notes.{no_faults, noted_all}
 use Rattle.decl_visits.specs.declared.VisitProgress.{VisitProgress}
 
@@ -16,14 +15,6 @@ unfoldable pub unvisited_count : List ℕ → ℕ
 unvisited_count [] = zero
 unvisited_count (zero ∷ l) = suc (unvisited_count l)
 unvisited_count (suc m ∷ l) = unvisited_count l
-
--- a record stands at p, and it is no declaration
-abbrev pub member_at : List Record → ℕ → Bool
-member_at rs p = ltb p (length rs) && not (is_decl (at rs p).kind)
-
--- a record stands at p, it is no declaration, and its kind refers to nothing
-abbrev pub refers_nowhere : List Record → ℕ → Bool
-refers_nowhere rs p = member_at rs p && not (may_refer (at rs p).kind)
 
 -- the slices and the counts hold the state s; the places and the fault buffer were o₀ and f₀
 pub record StateHeld (rs : List Record) (o₀ f₀ : List ℕ) (s : State) (marks places buffer : List ℕ) (a : VisitProgress) : Type 0 where
@@ -43,6 +34,12 @@ pub record VisitReady (rs : List Record) (marks places buffer : List ℕ) (a : V
   pub room : a.listed + unvisited_count marks + y ≤ length places
   pub spare : a.tally.total + unvisited_count marks * 2048 + x < 2 ^ 63
 
+-- a declaration to visit stands below n
+abbrev pub Within : ℕ → Reference → Type 0
+Within n Nowhere = Unit {0}
+Within n (Wrong c p) = Unit {0}
+Within n (Follow d) = d < n
+
 -- whatever state they held, they now hold it with the reference r taken up
 abbrev pub Visited : List Record → Reference → List ℕ → List ℕ → List ℕ → VisitProgress → List ℕ → List ℕ → List ℕ → VisitProgress → Type 0
 Visited rs r marks places buffer a marks' places' buffer' a' =
@@ -53,8 +50,3 @@ abbrev pub Walked : List Record → ℕ → List ℕ → List ℕ → List ℕ �
 Walked rs p marks places buffer a marks' places' buffer' a' =
     (k : ℕ) (o₀ f₀ : List ℕ) (s : State) → unvisited_count marks < k → StateHeld rs o₀ f₀ s marks places buffer a
     → StateHeld rs o₀ f₀ (walk (visit k (references rs)) (field_references rs p (length rs - p)) s) marks' places' buffer' a'
-
--- the fields from p up to q refer to nothing: to walk from p is to walk from q
-pub record Skipped (rs : List Record) (p q : ℕ) : Type 0 where
-  pub on : p ≤ q
-  pub same : (v : ℕ → State → State) (s : State) → walk v (field_references rs p (length rs - p)) s ≡ walk v (field_references rs q (length rs - q)) s

@@ -5,14 +5,21 @@
 ghost use Rattle.std.specs.Prelude.{◌≡◌, ◌+◌, ◌-◌, ◌^◌, ◌≤◌, ◌<◌, length, set, replicate};
 ghost use Rattle.rules.specs.Table.{decode, at};
 ghost use Rattle.rules.specs.Faults.{single, log};
-ghost use Rattle.rules.specs.DeclIdentifiers.{visited, root_reference};
+ghost use Rattle.rules.specs.DeclIdentifiers.{visited};
 ghost use Rattle.faults.specs.Notes.{noted};
 ghost use Rattle.declarations.specs.Starts.{Starts};
-ghost use Rattle.decl_visits.specs.Contract.{member_at, refers_nowhere, StateHeld, VisitReady, Visited, Walked, Skipped};
+ghost use Rattle.decl_visits.specs.Contract.{StateHeld, VisitReady, Within, Visited, Walked};
 
 use decl_references::field_references::field_reference;
 use decl_references::{own_reference, root_reference};
 use rules::{Reference, Tally, codes};
+
+// The marks of declarations. One that is listed has the mark 2.
+const UNVISITED: u8 = 0;
+
+const VISITING: u8 = 1;
+
+const LISTED: u8 = 2;
 
 // How many places are listed, and the faults found.
 #[derive(Clone, Copy)]
@@ -21,67 +28,45 @@ pub struct VisitProgress {
     pub tally: Tally,
 }
 
-// Whether a record that is no declaration stands at `place`.
-fn member_at(table: &[u8], place: usize) -> bool
-    ensures { result ≡ member_at (decode table.now) place }
-{
-    let k = table::kind(table, place);
-    let n = table::count(table);
-    (place < n) & !kinds::is_decl(k)
-}
-
-// Whether a record stands at `place` that is no declaration and of a kind that refers to nothing.
-fn refers_nowhere(table: &[u8], place: usize) -> bool
-    ensures { result ≡ refers_nowhere (decode table.now) place }
-{
-    let k = table::kind(table, place);
-    member_at(table, place) & !kinds::may_refer(k)
-}
-
-// The first place from `place` on that is not such a record. This loop saves the walk a call for each of them.
-fn next_reference(table: &[u8], place: usize) -> usize
-    requires { length (decode table.now) ≤ 1600 }
-    ensures { Skipped (decode table.now) place result }
-{
-    let mut q = place;
-    while refers_nowhere(table, q) {
-        q += 1;
+impl VisitProgress {
+    // One fault more, at the record at `place`.
+    fn note(&mut self, table: &[u8], buffer: &mut [u8], code: u16, place: usize)
+        requires { self.old.tally.total + 1 < 2 ^ 64 }
+        ensures { (self.new.listed ≡ self.old.listed) × (log self.new.tally buffer.new ≡ noted (log self.old.tally buffer.old) (single code (at (decode table.now) place))) }
+    {
+        let f = faults::fault::single(code, records::at(table, place));
+        self.tally = faults::notes::noted(self.tally, buffer, f);
     }
-    q
+
+    // Lists `decl`.
+    fn list(&mut self, decl: usize, marks: &mut [u8], places: &mut [u16])
+        requires { (decl < length marks.old) × (decl < 65536) × (self.old.listed < length places.old) }
+        ensures { (self.new.listed ≡ self.old.listed + 1) × (self.new.tally ≡ self.old.tally) × (marks.new ≡ set marks.old decl 2) × (places.new ≡ set places.old self.old.listed decl) }
+    {
+        marks[decl] = LISTED;
+        places[self.listed] = decl as u16;
+        self.listed += 1;
+    }
 }
 
-// One fault more, at the record at `place`.
-fn note(
+// Takes up a reference: a declaration is visited, a fault is noted.
+#[cycle(visit_walk)]
+fn take_up(
     table: &[u8],
+    starts: &[u16],
+    reference: Reference,
+    marks: &mut [u8],
+    places: &mut [u16],
     buffer: &mut [u8],
-    progress: VisitProgress,
-    code: u16,
-    place: usize,
-) -> VisitProgress
-    requires { progress.tally.total + 1 < 2 ^ 64 }
-    ensures { (result.listed ≡ progress.listed) × (log result.tally buffer.new ≡ noted (log progress.tally buffer.old) (single code (at (decode table.now) place))) }
+    progress: &mut VisitProgress,
+)
+    requires { Within (length (decode table.now)) reference × VisitReady (decode table.now) marks.old places.old buffer.old progress.old 1 0 × Starts (decode table.now) starts.now }
+    ensures { Visited (decode table.now) reference marks.old places.old buffer.old progress.old marks.new places.new buffer.new progress.new }
 {
-    let f = faults::fault::single(code, records::at(table, place));
-    let before = progress.tally;
-    let tally = faults::notes::noted(before, buffer, f);
-    VisitProgress {
-        listed: progress.listed,
-        tally,
-    }
-}
-
-// Lists `decl`.
-fn list(decl: usize, marks: &mut [u8], places: &mut [u16], progress: VisitProgress) -> VisitProgress
-    requires { (decl < length marks.old) × (decl < 65536) × (progress.listed < length places.old) }
-    ensures { (result.listed ≡ progress.listed + 1) × (result.tally ≡ progress.tally) × (marks.new ≡ set marks.old decl 2) × (places.new ≡ set places.old progress.listed decl) }
-{
-    let i = progress.listed;
-    let tally = progress.tally;
-    marks[decl] = 2;
-    places[i] = decl as u16;
-    VisitProgress {
-        listed: i + 1,
-        tally,
+    match reference {
+        Reference::Follow(d) => visit(table, starts, d, marks, places, buffer, progress),
+        Reference::Wrong(code, p) => progress.note(table, buffer, code, p),
+        Reference::Nowhere => {}
     }
 }
 
@@ -94,30 +79,24 @@ fn visit(
     marks: &mut [u8],
     places: &mut [u16],
     buffer: &mut [u8],
-    progress: VisitProgress,
-) -> VisitProgress
-    requires { (decl < length (decode table.now)) × VisitReady (decode table.now) marks.old places.old buffer.old progress 1 0 × Starts (decode table.now) starts.now }
-    ensures { Visited (decode table.now) (Reference.Follow decl) marks.old places.old buffer.old progress marks.new places.new buffer.new result }
+    progress: &mut VisitProgress,
+)
+    requires { (decl < length (decode table.now)) × VisitReady (decode table.now) marks.old places.old buffer.old progress.old 1 0 × Starts (decode table.now) starts.now }
+    ensures { Visited (decode table.now) (Reference.Follow decl) marks.old places.old buffer.old progress.old marks.new places.new buffer.new progress.new }
 {
     let m = marks[decl];
-    if m == 0 {
-        marks[decl] = 1;
-        let b = walk(table, starts, decl + 1, marks, places, buffer, progress);
+    if m == UNVISITED {
+        marks[decl] = VISITING;
+        walk(table, starts, decl + 1, marks, places, buffer, progress);
         let r = own_reference(table, starts, decl);
-        let g = match r {
-            Reference::Follow(e) => visit(table, starts, e, marks, places, buffer, b),
-            Reference::Wrong(code, p) => note(table, buffer, b, code, p),
-            Reference::Nowhere => b,
-        };
-        list(decl, marks, places, g)
-    } else if m == 1 {
-        note(table, buffer, progress, codes::RECURSIVE_DECL, decl)
-    } else {
-        progress
+        take_up(table, starts, r, marks, places, buffer, progress);
+        progress.list(decl, marks, places);
+    } else if m == VISITING {
+        progress.note(table, buffer, codes::RECURSIVE_DECL, decl);
     }
 }
 
-// Visits what the fields from `place` on refer to, up to the next declaration.
+// Takes up what the fields from `place` on refer to, up to the next declaration.
 #[cycle(visit_walk)]
 fn walk(
     table: &[u8],
@@ -126,42 +105,21 @@ fn walk(
     marks: &mut [u8],
     places: &mut [u16],
     buffer: &mut [u8],
-    progress: VisitProgress,
-) -> VisitProgress
-    requires { VisitReady (decode table.now) marks.old places.old buffer.old progress (length (decode table.now) - place) 0 × Starts (decode table.now) starts.now }
-    ensures { Walked (decode table.now) place marks.old places.old buffer.old progress marks.new places.new buffer.new result }
+    progress: &mut VisitProgress,
+)
+    requires { VisitReady (decode table.now) marks.old places.old buffer.old progress.old (length (decode table.now) - place) 0 × Starts (decode table.now) starts.now }
+    ensures { Walked (decode table.now) place marks.old places.old buffer.old progress.old marks.new places.new buffer.new progress.new }
 {
-    let q = next_reference(table, place);
-    if member_at(table, q) {
+    for q in place..table::count(table) {
+        let k = table::kind(table, q);
+        if kinds::is_decl(k) {
+            return;
+        }
+        if !kinds::may_refer(k) {
+            continue;
+        }
         let r = field_reference(table, starts, q);
-        let b = match r {
-            Reference::Follow(e) => visit(table, starts, e, marks, places, buffer, progress),
-            Reference::Wrong(code, i) => note(table, buffer, progress, code, i),
-            Reference::Nowhere => progress,
-        };
-        walk(table, starts, q + 1, marks, places, buffer, b)
-    } else {
-        progress
-    }
-}
-
-// Takes up what the record at `place` refers to: a declaration is visited, a test is checked.
-fn visit_root(
-    table: &[u8],
-    starts: &[u16],
-    place: usize,
-    marks: &mut [u8],
-    places: &mut [u16],
-    buffer: &mut [u8],
-    progress: VisitProgress,
-) -> VisitProgress
-    requires { (place < length (decode table.now)) × VisitReady (decode table.now) marks.old places.old buffer.old progress 1 0 × Starts (decode table.now) starts.now }
-    ensures { Visited (decode table.now) (root_reference (decode table.now) place) marks.old places.old buffer.old progress marks.new places.new buffer.new result }
-{
-    match root_reference(table, starts, place) {
-        Reference::Follow(d) => visit(table, starts, d, marks, places, buffer, progress),
-        Reference::Wrong(code, q) => note(table, buffer, progress, code, q),
-        Reference::Nowhere => progress,
+        take_up(table, starts, r, marks, places, buffer, progress);
     }
 }
 
@@ -176,15 +134,13 @@ pub fn visit_all(
     requires { (length (decode table.now) ≤ 1600) × (marks.old ≡ replicate (length (decode table.now)) 0) × (length (decode table.now) ≤ length places.old) × Starts (decode table.now) starts.now }
     ensures { StateHeld (decode table.now) places.old buffer.old (visited (decode table.now)) marks.new places.new buffer.new result }
 {
-    let n = table::count(table);
-    let mut a = VisitProgress {
+    let mut progress = VisitProgress {
         listed: 0,
         tally: faults::no_faults(),
     };
-    let mut p = 0;
-    while p < n {
-        a = visit_root(table, starts, p, marks, places, buffer, a);
-        p += 1;
+    for p in 0..table::count(table) {
+        let r = root_reference(table, starts, p);
+        take_up(table, starts, r, marks, places, buffer, &mut progress);
     }
-    a
+    progress
 }

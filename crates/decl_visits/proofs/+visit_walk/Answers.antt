@@ -1,78 +1,60 @@
--- The cycle of calls of `decl_visits::visit` and `decl_visits::walk` meets its contracts; the laws are in VisitReady. Assumes nothing.
-use Rattle.std.proofs.Common.{ℕ, sym, ◌∙◌}
+-- The cycle of calls of `decl_visits::visit`, `decl_visits::take_up` and `decl_visits::walk` meets its contracts; the laws are in VisitReady. Assumes nothing.
+use Rattle.std.proofs.Common.{◌<◌, length, sym, arith}
 use Rattle.rules.specs.Table.{decode}
-use Rattle.decl_visits.proofs.VisitReady.{follow-in, Step, step-follow, step-wrong, step-nowhere, call-note, call-walk, call-own, call-list, ret-new, ret-open, ret-listed, call-field, call-rest, ret-more, walked_end}
+use Rattle.decl_visits.proofs.VisitReady.{call-walk, call-own, call-list, ret-new, ret-open, ret-listed, ret-follow, ret-wrong, walk-start, walk-decl, walk-past, walk-skip, walk-call, walk-turn}
 use Rattle.decl_visits.proofs.+visit_walk.Goals as goal
-use Rattle.decl_visits.proofs.+visit_walk.Goals.{visit-Joined-r, walk-Joined-r, visit-in-Follow, visit-in-Wrong, visit-in-Nowhere, walk-in-Follow, walk-in-Wrong, walk-in-Nowhere}
 
-pub visit-walk-b-requires : goal.visit-walk-b-requires
-visit-walk-b-requires t c =
-    let h = call-walk _ _ _ _ _ c.requires.0 c.requires.1 c.if-m-eq0.true c.decreases in
+pub take_up-returns-in-Follow : goal.take_up-returns-in-Follow
+take_up-returns-in-Follow t c = ret-follow _ _ _ _ _ c.in-Follow.is c.visit.ensures
+
+pub take_up-returns-in-Wrong : goal.take_up-returns-in-Wrong
+take_up-returns-in-Wrong t c = ret-wrong _ _ _ _ _ c.in-Wrong.is c.note.ensures
+
+pub visit-walk-requires : goal.visit-walk-requires
+visit-walk-requires t c =
+    let h = call-walk _ _ _ _ _ c.requires.0 c.requires.1 c.if-m-eq-UNVISITED.true c.decreases in
     (h.0, (h.1, c.requires.2))
 
-pub visit-visit-g-requires : goal.visit-visit-g-requires
-visit-visit-g-requires t c =
-    let h = call-own _ _ _ _ _ c.requires.0 c.requires.1 c.if-m-eq0.true c.walk-b.ensures c.walk-b.auto.places c.own_reference-r.ensures c.decreases in
-    (h.0, (follow-in (decode c.args.table.now) c.in-Follow.is h.1.0, h.1.1, c.requires.2))
-
-pub visit-note-g-requires : goal.visit-note-g-requires
-visit-note-g-requires t c =
-    let h = call-own _ _ _ _ _ c.requires.0 c.requires.1 c.if-m-eq0.true c.walk-b.ensures c.walk-b.auto.places c.own_reference-r.ensures c.decreases in
-    call-note _ _ _ _ _ h.1.1
-
--- where the arms on the parent's name meet
-visit-joined : (t : ℕ) (c : visit-Joined-r t)
-    → Step (decode c.args.table.now) c.own_reference-r.result c.walk-b.new.marks c.walk-b.new.places c.walk-b.new.buffer c.walk-b.result
-    c.match-r.marks c.match-r.places c.match-r.buffer c.match-r.g
-visit-joined t c =
-    elim c.match-r.branch [
-      | visit-in-Follow w ↦ step-follow w.marks-is w.places-is w.buffer-is w.g-is w.in-Follow.is w.visit-g.ensures w.visit-g.auto.marks w.visit-g.auto.places w.visit-g.auto.buffer
-      | visit-in-Wrong w ↦ step-wrong w.marks-is w.places-is w.buffer-is w.g-is w.in-Wrong.is w.note-g.ensures w.note-g.auto.buffer
-      | visit-in-Nowhere w ↦ step-nowhere w.marks-is w.places-is w.buffer-is w.g-is w.in-Nowhere.is
-    ]
+pub visit-take_up-requires : goal.visit-take_up-requires
+visit-take_up-requires t c =
+    let h = call-own _ _ _ _ _ c.requires.0 c.requires.1 c.if-m-eq-UNVISITED.true c.walk.ensures c.walk.auto.places c.own_reference-r.ensures c.decreases in
+    (h.0, (h.1.0, h.1.1, c.requires.2))
 
 pub visit-list-requires : goal.visit-list-requires
 visit-list-requires t c =
-    let j = visit-joined t (goal.at.visit-list-requires t c).Joined-r in
-    call-list _ _ _ _ _ c.requires.0 c.requires.1 c.if-m-eq0.true c.walk-b.ensures c.walk-b.auto.places c.own_reference-r.ensures j.made j.places-long
+    call-list _ _ _ _ _ c.requires.0 c.requires.1 c.if-m-eq-UNVISITED.true c.walk.ensures c.walk.auto.places c.own_reference-r.ensures c.take_up.ensures c.take_up.auto.places
 
-pub visit-returns-after-r : goal.visit-returns-after-r
-visit-returns-after-r t c =
-    let j = visit-joined t (goal.at.visit-returns-after-r t c).Joined-r in
-    ret-new _ _ _ _ _ c.requires.0 c.requires.1 c.if-m-eq0.true c.walk-b.ensures c.walk-b.auto.places c.own_reference-r.ensures j.made j.places-long c.list.ensures
+pub visit-returns-then-m-eq-UNVISITED : goal.visit-returns-then-m-eq-UNVISITED
+visit-returns-then-m-eq-UNVISITED t c =
+    ret-new _ _ _ _ _ c.requires.0 c.requires.1 c.if-m-eq-UNVISITED.true c.walk.ensures c.walk.auto.places c.own_reference-r.ensures c.take_up.ensures c.take_up.auto.places c.list.ensures
 
-pub visit-returns-then-m-eq1 : goal.visit-returns-then-m-eq1
-visit-returns-then-m-eq1 t c = ret-open _ _ _ _ _ c.requires.0 c.requires.1 c.if-m-eq1.true c.note.ensures
+pub visit-returns-then-m-eq-VISITING : goal.visit-returns-then-m-eq-VISITING
+visit-returns-then-m-eq-VISITING t c = ret-open _ _ _ _ _ c.requires.0 c.requires.1 c.if-m-eq-VISITING.true c.note.ensures
 
-pub visit-returns-else-m-eq1 : goal.visit-returns-else-m-eq1
-visit-returns-else-m-eq1 t c = ret-listed _ _ _ _ _ c.requires.0 c.requires.1 c.if-m-eq0.false c.if-m-eq1.false
+pub visit-returns-else-m-eq-VISITING : goal.visit-returns-else-m-eq-VISITING
+visit-returns-else-m-eq-VISITING t c = ret-listed _ _ _ _ _ c.requires.0 c.requires.1 c.if-m-eq-UNVISITED.false c.if-m-eq-VISITING.false
 
-pub walk-visit-b-requires : goal.walk-visit-b-requires
-walk-visit-b-requires t c =
-    let h = call-field _ _ _ _ _ c.next_reference-q.ensures (sym c.member_at.ensures ∙ c.if-member_at.true) c.requires.0 c.field_reference-r.ensures c.decreases in
-    (h.0, (follow-in (decode c.args.table.now) c.in-Follow.is h.1.0, h.1.1, c.requires.1))
+pub walk-loop-q-init : goal.walk-loop-q-init
+walk-loop-q-init t c = walk-start _ _ _ _ _ _ c.requires.0
 
--- where the arms on the field meet
-walk-joined : (t : ℕ) (c : walk-Joined-r t)
-    → Step (decode c.args.table.now) c.field_reference-r.result c.args.marks.now c.args.places.now c.args.buffer.now c.args.progress
-    c.match-r.marks c.match-r.places c.match-r.buffer c.match-r.b
-walk-joined t c =
-    elim c.match-r.branch [
-      | walk-in-Follow w ↦ step-follow w.marks-is w.places-is w.buffer-is w.b-is w.in-Follow.is w.visit-b.ensures w.visit-b.auto.marks w.visit-b.auto.places w.visit-b.auto.buffer
-      | walk-in-Wrong w ↦ step-wrong w.marks-is w.places-is w.buffer-is w.b-is w.in-Wrong.is w.note-b.ensures w.note-b.auto.buffer
-      | walk-in-Nowhere w ↦ step-nowhere w.marks-is w.places-is w.buffer-is w.b-is w.in-Nowhere.is
-    ]
+pub walk-returns-then-is_decl : goal.walk-returns-then-is_decl
+walk-returns-then-is_decl t c = walk-decl _ c.loop-q.invariant (rw (← c.kind-k.ensures) (sym c.if-is_decl.ensures))
 
-pub walk-walk-requires : goal.walk-walk-requires
-walk-walk-requires t c =
-    let j = walk-joined t (goal.at.walk-walk-requires t c).Joined-r in
-    let h = call-rest _ _ _ _ _ c.next_reference-q.ensures (sym c.member_at.ensures ∙ c.if-member_at.true) c.requires.0 c.field_reference-r.ensures j.made j.places-long c.decreases in
-    (h.0, (h.1, c.requires.1))
+pub walk-loop-q-preserved-then-not-may_refer : goal.walk-loop-q-preserved-then-not-may_refer
+walk-loop-q-preserved-then-not-may_refer t c =
+    let l : c.loop-q.q < length (decode c.args.table.now) = omega (arith, c.count-q-end.ensures, c.loop-q-test.true) in
+    walk-skip _ c.loop-q.invariant l (rw (← c.kind-k.ensures) (sym c.if-is_decl.ensures)) (rw (← c.kind-k.ensures) (sym c.if-not-may_refer.ensures))
 
-pub walk-returns-after-r : goal.walk-returns-after-r
-walk-returns-after-r t c =
-    let j = walk-joined t (goal.at.walk-returns-after-r t c).Joined-r in
-    ret-more _ _ _ _ _ c.next_reference-q.ensures (sym c.member_at.ensures ∙ c.if-member_at.true) c.requires.0 c.field_reference-r.ensures j.made j.places-long c.walk.ensures
+pub walk-take_up-requires : goal.walk-take_up-requires
+walk-take_up-requires t c =
+    let l : c.loop-q.q < length (decode c.args.table.now) = omega (arith, c.count-q-end.ensures, c.loop-q-test.true) in
+    let h = walk-call _ c.loop-q.invariant l (rw (← c.kind-k.ensures) (sym c.if-is_decl.ensures)) c.field_reference-r.ensures c.decreases in
+    (h.0, (h.1.0, h.1.1, c.requires.1))
 
-pub walk-returns-else-member_at : goal.walk-returns-else-member_at
-walk-returns-else-member_at t c = walked_end _ _ _ _ _ c.next_reference-q.ensures (sym c.member_at.ensures ∙ c.if-member_at.false)
+pub walk-loop-q-preserved : goal.walk-loop-q-preserved
+walk-loop-q-preserved t c =
+    let l : c.loop-q.q < length (decode c.args.table.now) = omega (arith, c.count-q-end.ensures, c.loop-q-test.true) in
+    walk-turn _ c.loop-q.invariant l (rw (← c.kind-k.ensures) (sym c.if-is_decl.ensures)) c.field_reference-r.ensures _ _ _ _ c.take_up.ensures c.take_up.auto.places
+
+pub walk-returns : goal.walk-returns
+walk-returns t c = walk-past _ c.loop-q.invariant (omega (arith, c.count-q-end.ensures, c.loop-q-test.false))

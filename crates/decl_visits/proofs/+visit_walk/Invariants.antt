@@ -1,11 +1,18 @@
--- The measure of the cycle of `decl_visits::visit` and `decl_visits::walk`: the unvisited places and the fields left, as one number.
-use Rattle.std.proofs.Common.{◌+◌, ◌-◌, ◌*◌, length}
+-- The measure of the cycle of `decl_visits::visit`, `decl_visits::take_up` and `decl_visits::walk`: three for each unvisited place, and which of the three it is.
+use Rattle.std.proofs.Common.{◌+◌, ◌*◌}
 use Rattle.rules.specs.Table.{decode}
 use Rattle.decl_visits.specs.Contract.{unvisited_count}
+use Rattle.decl_visits.proofs.VisitReady.{Walking}
 use Rattle.decl_visits.proofs.+visit_walk.Given as goal
 
 abbrev pub decreases-visit : goal.decreases-visit
-decreases-visit l = unvisited_count l.marks.now * 2048
+decreases-visit l = unvisited_count l.marks.now * 3
+
+abbrev pub decreases-take_up : goal.decreases-take_up
+decreases-take_up l = unvisited_count l.marks.now * 3 + 1
 
 abbrev pub decreases-walk : goal.decreases-walk
-decreases-walk l = unvisited_count l.marks.now * 2048 + 1 + (length (decode l.table.now) - l.place)
+decreases-walk l = unvisited_count l.marks.now * 3 + 2
+
+abbrev pub invariant-walk-loop-q : goal.invariant-walk-loop-q
+invariant-walk-loop-q l = Walking (decode l.table) l.place l.initial.marks l.initial.places l.initial.buffer l.initial.progress l.marks l.places l.buffer l.progress l.q
