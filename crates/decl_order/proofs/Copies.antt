@@ -1,5 +1,5 @@
 -- Tables in parts: the bytes and the records of listed declarations. Assumes nothing.
-use Rattle.std.proofs.Common.{None, Some}
+use Rattle.std.proofs.Common.{None, Some, take_all}
 use mathlib.Core.Path.{◌≡◌, refl, sym, ◌∙◌, ap, subst}
 use mathlib.Core.List.Memᴰ
 use mathlib.Core.List.{List, [], ◌∷◌, ◌++◌, append_assoc, append-nil, Memᴰ}
@@ -8,7 +8,7 @@ use native.Mathlib.Nat.{zero-add, suc-add}
 use native.Mathlib.Numerals.{add-one}
 use native.Mathlib.Omega.{arith}
 use lib.ListN.{length, get_or, take, drop, length-append, length-drop, take-append-drop, get_or-append}
-use lib.Seq.{length-take-le, take_at, drop_at, take-suc, take-add, drop-append-le, get_or-take}
+use lib.Seq.{length-take-le, take_at, drop_at, take-suc, drop-append-le}
 use Rattle.rules.specs.Bytes.{number_at, written}
 use Rattle.rules.specs.Table.{record_at, records, decode}
 use Rattle.rules.specs.Places.{holds_at, first_from, member_count}
@@ -130,69 +130,60 @@ all-decode t (d ∷ l) h =
 -- ---- the loop that copies
 
 -- the declarations at the first i places are copied
-pub record Copied (t places out₀ out : List ℕ) (n count i : ℕ) : Type 0 where
-  pub below : i ≤ n
+pub record Copied (t places out₀ out : List ℕ) (count i : ℕ) : Type 0 where
   pub counted : count ≡ length (all_records (decode t) (take i places))
   pub made : out ≡ written out₀ 0 (all_bytes t (take i places))
 
-pub copy_start : (t places out : List ℕ) (n : ℕ) → Copied t places out out n 0 0
+pub copy_start : (t places out : List ℕ) → Copied t places out out 0 0
 unfolding all_bytes all_records
-copy_start t places out n = record { below = omega arith; counted = refl; made = refl }
+copy_start t places out = record { counted = refl; made = refl }
 
-module _ (t places out₀ : List ℕ) (n : ℕ) (short : n ≤ length places) (h : Placed (decode t) (take n places) out₀) where
-  pub place_at : (i : ℕ) → i < n → get_or places i 0 < length (decode t)
-  place_at i l =
-      h.within (get_or places i 0)
-      (Memᴰ.cast (sym (get_or-take n places i 0 l)) (mem-at (take n places) i (omega (arith, length-take-le n places short))))
+module _ (t places out₀ : List ℕ) (h : Placed (decode t) places out₀) where
+  pub place_at : (i : ℕ) → i < length places → get_or places i 0 < length (decode t)
+  place_at i l = h.within (get_or places i 0) (mem-at places i l)
 
-  before-in : (i : ℕ) → i ≤ n → (d : ℕ) → Memᴰ d (take i places) → d < length (decode t)
-  before-in i l d m =
-      let e : i + (n - i) ≡ n = omega arith in
-      let s : take n places ≡ take i places ++ take (n - i) (drop i places) = ap (λ (k : ℕ). take k places) (sym e) ∙ take-add i (n - i) places in
-      h.within d (subst (λ (x : List ℕ). Memᴰ d x) (sym s) (Memᴰ.append_left (take (n - i) (drop i places)) m))
+  before-in : (i d : ℕ) → Memᴰ d (take i places) → d < length (decode t)
+  before-in i d m = h.within d (subst (λ (x : List ℕ). Memᴰ d x) (take-append-drop i places) (Memᴰ.append_left (drop i places) m))
 
   -- the records so far fit
-  fits-at : (i : ℕ) → i ≤ n → 40 * length (all_records (decode t) (take i places)) ≤ length out₀
-  fits-at i l =
-      let e : i + (n - i) ≡ n = omega arith in
-      let s : take n places ≡ take i places ++ take (n - i) (drop i places) = ap (λ (k : ℕ). take k places) (sym e) ∙ take-add i (n - i) places in
-      let z = ap (λ (x : List ℕ). length (all_records (decode t) x)) s ∙ ap length (records-append-all (decode t) (take i places) (take (n - i) (drop i places))) in
-      omega (arith, z, h.fits, length-append (all_records (decode t) (take i places)) (all_records (decode t) (take (n - i) (drop i places))))
+  fits-at : (i : ℕ) → 40 * length (all_records (decode t) (take i places)) ≤ length out₀
+  fits-at i =
+      let z = ap (λ (x : List ℕ). length (all_records (decode t) x)) (sym (take-append-drop i places)) ∙ ap length (records-append-all (decode t) (take i places) (drop i places)) in
+      omega (arith, z, h.fits, length-append (all_records (decode t) (take i places)) (all_records (decode t) (drop i places)))
 
-  module _ (out : List ℕ) (count i : ℕ) (c : Copied t places out₀ out n count i) where
+  module _ {out : List ℕ} {count i : ℕ} (c : Copied t places out₀ out count i) where
     front : 0 + length (all_bytes t (take i places)) ≡ 40 * count
-    front = omega (arith, all-length t (take i places) (before-in i c.below), c.counted)
+    front = omega (arith, all-length t (take i places) (before-in i), c.counted)
 
     room : 0 + length (all_bytes t (take i places)) ≤ length out₀
-    room = omega (arith, front, c.counted, fits-at i c.below)
+    room = omega (arith, front, c.counted, fits-at i)
 
     pub copied-long : length out ≡ length out₀
     copied-long = ap length c.made ∙ length-written out₀ 0 (all_bytes t (take i places)) room
 
-    module _ (l : i < n) (m : ℕ) (me : m ≡ 1 + member_count (decode t) (get_or places i 0)) where
-      turn-count : count + m ≡ length (all_records (decode t) (take (i + 1) places))
+    module _ (l : i < length places) {m : ℕ} (me : m ≡ member_count (decode t) (get_or places i 0)) where
+      turn-count : count + (1 + m) ≡ length (all_records (decode t) (take (i + 1) places))
       turn-count =
-          sym (ap (λ (x : List ℕ). length (all_records (decode t) x)) (ap (λ (k : ℕ). take k places) (add-one i) ∙ take-suc places i 0 (omega arith))
+          sym (ap (λ (x : List ℕ). length (all_records (decode t) x)) (ap (λ (k : ℕ). take k places) (add-one i) ∙ take-suc places i 0 l)
           ∙ ap length (records-snoc (decode t) (take i places) (get_or places i 0))
           ∙ length-append (all_records (decode t) (take i places)) (decl_records (decode t) (get_or places i 0))
           ∙ omega (arith, c.counted, me, decl-length (decode t) (get_or places i 0) (place_at i l)))
 
-      pub copy-call : (40 * (get_or places i 0 + m) ≤ length t) × (40 * (count + m) ≤ length out)
+      pub copy-call : (40 * (get_or places i 0 + (1 + m)) ≤ length t) × (40 * (count + (1 + m)) ≤ length out)
       copy-call = (
         omega (arith, place_in t (get_or places i 0) (place_at i l), me),
-        omega (arith, turn-count, fits-at (i + 1) (omega arith), copied-long),
+        omega (arith, turn-count, fits-at (i + 1), copied-long),
       )
 
-      pub copy-turn : (out' : List ℕ) → out' ≡ written out (40 * count) (take (40 * m) (drop (40 * get_or places i 0) t)) → Copied t places out₀ out' n (count + m) (i + 1)
+      pub copy-turn : {out' : List ℕ} → out' ≡ written out (40 * count) (take (40 * (1 + m)) (drop (40 * get_or places i 0) t)) → Copied t places out₀ out' (count + (1 + m)) (i + 1)
       unfolding decl_bytes
-      copy-turn out' e = record {
-        below = omega arith;
+      copy-turn {out'} e = record {
         counted = turn-count;
         made =
-            let s : take (i + 1) places ≡ take i places ++ get_or places i 0 ∷ [] = ap (λ (k : ℕ). take k places) (add-one i) ∙ take-suc places i 0 (omega arith) in
+            let s : take (i + 1) places ≡ take i places ++ get_or places i 0 ∷ [] = ap (λ (k : ℕ). take k places) (add-one i) ∙ take-suc places i 0 l in
             e ∙ rw (me, c.made, s, bytes-snoc t (take i places) (get_or places i 0), ← front)
             (written-more out₀ (all_bytes t (take i places)) (decl_bytes t (get_or places i 0)) 0 room);
       }
 
-    pub copy-end : n ≤ i → (count ≡ length (all_records (decode t) (take n places))) × (out ≡ written out₀ 0 (all_bytes t (take n places)))
-    copy-end l = let b = c.below in let z : i ≡ n = omega arith in (rw z at c.counted, rw z at c.made)
+    pub copy-end : length places ≤ i → (count ≡ length (all_records (decode t) places)) × (out ≡ written out₀ 0 (all_bytes t places))
+    copy-end l = let z : take i places ≡ places = take_all i places l in (rw z at c.counted, rw z at c.made)

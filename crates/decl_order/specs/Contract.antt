@@ -1,5 +1,5 @@
 -- What the contract of pass 2 says: what the faults are, and what the records copied.
-use Rattle.std.specs.Prelude.{◌≡◌, ℕ, ◌+◌, ◌*◌, ◌<◌, ◌≤◌, length, take, drop, replicate}
+use Rattle.std.specs.Prelude.{◌≡◌, ℕ, ◌+◌, ◌*◌, ◌<◌, ◌≤◌, length, take, drop, Ok, Err, Result}
 use mathlib.Core.List.{List, [], ◌∷◌, ◌++◌, Memᴰ}
 use Rattle.rules.specs.Table.{decode}
 use Rattle.rules.specs.Bytes.{written}
@@ -8,8 +8,8 @@ use Rattle.rules.specs.Faults.{log, logged}
 use Rattle.rules.specs.DeclIdentifiers.{pass2, order, ordered, all_records}
 use Rattle.rules.specs.Ordering.{Accepts}
 use Rattle.rules.specs.declared.Record.{Record}
-use Rattle.declarations.specs.Starts.{Starts}
-use Rattle.decl_order.specs.declared.OrderResult.{OrderResult}
+use Rattle.rules.specs.declared.Tally.{Tally}
+use Rattle.faults.specs.Notes.{no_faults}
 
 -- the bytes of the declarations at these places, in this order, unchanged
 unfoldable pub decl_bytes : List ℕ → ℕ → List ℕ
@@ -32,12 +32,8 @@ pub record ListedAtStart (t out out' : List ℕ) (n : ℕ) : Type 0 where
   pub records : decode (take (40 * n) out') ≡ ordered (decode t)
 
 -- the faults of pass 2; if there are none, the listed table, else the buffer as it was
-pub record DeclIdentifiersChecked (t buffer out buffer' out' : List ℕ) (r : OrderResult) : Type 0 where
-  pub faults : log r.tally buffer' ≡ logged buffer (pass2 (decode t))
-  pub accepted : Accepts (decode t) → ListedAtStart t out out' r.records
-  pub refused : ¬ (Accepts (decode t)) → (r.records ≡ 0) × (out' ≡ out)
-
--- what is asked where the declarations are visited and copied: no place is marked, and there is room for places and records
-abbrev pub VisitingAll : List Record → List ℕ → List ℕ → List ℕ → List ℕ → Type 0
-VisitingAll rs starts marks places out =
-    (length rs ≤ 1600) × (marks ≡ replicate (length rs) 0) × (length rs ≤ length places) × (40 * length rs ≤ length out) × Starts rs starts
+abbrev pub DeclIdentifiersChecked : List ℕ → List ℕ → List ℕ → List ℕ → List ℕ → Result ℕ Tally → Type 0
+DeclIdentifiersChecked t buffer out buffer' out' (Ok n) =
+    Accepts (decode t) × (log no_faults buffer' ≡ logged buffer (pass2 (decode t))) × ListedAtStart t out out' n
+DeclIdentifiersChecked t buffer out buffer' out' (Err y) =
+    ¬ (Accepts (decode t)) × (log y buffer' ≡ logged buffer (pass2 (decode t))) × (out' ≡ out)

@@ -6,72 +6,54 @@ ghost use Rattle.rules.specs.Table.{decode};
 ghost use Rattle.rules.specs.Bytes.{written};
 ghost use Rattle.rules.specs.DeclIdentifiers.{all_records};
 ghost use Rattle.declarations.specs.Starts.{Starts};
-ghost use Rattle.decl_order.specs.Contract.{all_bytes, Placed, DeclIdentifiersChecked, VisitingAll};
+ghost use Rattle.decl_order.specs.Contract.{all_bytes, Placed, DeclIdentifiersChecked};
 
 use rules::Tally;
 use rules::limits::MOST_RECORDS;
 use table::{NO_PLACE, REMAINDERS};
 
-// How many records are listed, and the faults found.
-#[derive(Clone, Copy)]
-pub struct OrderResult {
-    pub records: usize,
-    pub tally: Tally,
-}
-
-// Copies the records of the declarations at the first `listed` places to the start of out. Returns how many records they are.
-fn copy_listed(table: &[u8], places: &[u16], listed: usize, out: &mut [u8]) -> usize
-    requires { (listed ≤ length places.now) × Placed (decode table.now) (take listed places.now) out.old }
-    ensures { (result ≡ length (all_records (decode table.now) (take listed places.now))) × (out.new ≡ written out.old 0 (all_bytes table.now (take listed places.now))) }
+// Copies the records of the declarations at these places to the start of out. Returns how many records they are.
+fn copy_listed(table: &[u8], places: &[u16], out: &mut [u8]) -> usize
+    requires { Placed (decode table.now) places.now out.old }
+    ensures { (result ≡ length (all_records (decode table.now) places.now)) × (out.new ≡ written out.old 0 (all_bytes table.now places.now)) }
 {
     let mut count = 0;
-    let mut i = 0;
-    while i < listed {
-        let d = places[i] as usize;
+    for place in places {
+        let d = *place as usize;
         let m = 1 + search::members::member_count(table, d);
         store::copy(out, count, table, d, m);
         count += m;
-        i += 1;
     }
     count
 }
 
-// The visits with marks and places of the caller's, then the copy, if no fault is found.
-fn order_with(
+// The visits, then the copy, if no fault is found.
+fn order_from(
     table: &[u8],
     starts: &[u16],
-    marks: &mut [u8],
-    places: &mut [u16],
     buffer: &mut [u8],
     out: &mut [u8],
-) -> OrderResult
-    requires { VisitingAll (decode table.now) starts.now marks.old places.old out.old }
-    ensures { DeclIdentifiersChecked table.now buffer.old out.old buffer.new out.new result }
-{
-    let a = decl_visits::visit_all(table, starts, marks, places, buffer);
-    let tally = a.tally;
-    if 0 < tally.total {
-        return OrderResult { records: 0, tally };
-    }
-    OrderResult {
-        records: copy_listed(table, places, a.listed, out),
-        tally,
-    }
-}
-
-// The pass with marks and places of its own.
-fn order_from(table: &[u8], starts: &[u16], buffer: &mut [u8], out: &mut [u8]) -> OrderResult
+) -> Result<usize, Tally>
     requires { (length (decode table.now) ≤ 1600) × (40 * length (decode table.now) ≤ length out.old) × Starts (decode table.now) starts.now }
     ensures { DeclIdentifiersChecked table.now buffer.old out.old buffer.new out.new result }
 {
     let n = table::count(table);
     let mut marks = [0u8; MOST_RECORDS];
     let mut places = [0u16; MOST_RECORDS];
-    order_with(table, starts, &mut marks[0..n], &mut places, buffer, out)
+    let a = decl_visits::visit_all(table, starts, &mut marks[..n], &mut places, buffer);
+    let tally = a.tally;
+    if 0 < tally.total {
+        return Err(tally);
+    }
+    Ok(copy_listed(table, &places[..a.listed], out))
 }
 
-// Pass 2: its faults, and, if there are none, the listed table at the start of out, all others of its bytes unchanged.
-pub fn check_decl_identifiers(table: &[u8], buffer: &mut [u8], out: &mut [u8]) -> OrderResult
+// Pass 2: its faults, or how many records are listed; they then stand at the start of out, all others of its bytes unchanged.
+pub fn check_decl_identifiers(
+    table: &[u8],
+    buffer: &mut [u8],
+    out: &mut [u8],
+) -> Result<usize, Tally>
     requires { (length (decode table.now) ≤ 1600) × (40 * length (decode table.now) ≤ length out.old) }
     ensures { DeclIdentifiersChecked table.now buffer.old out.old buffer.new out.new result }
 {

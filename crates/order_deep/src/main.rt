@@ -2,7 +2,7 @@
 // which name is listed first.
 #![tactic(auto)]
 
-ghost use Rattle.std.specs.Prelude.{◌≡◌, ◌<◌, length};
+ghost use Rattle.std.specs.Prelude.{◌≡◌, ℕ, ◌<◌, length};
 
 use rules::Record;
 use rules::limits::{FAULT_LENGTH, MOST_RECORDS, TABLE_LENGTH};
@@ -52,25 +52,12 @@ fn holder(place: usize) -> Record
     record(kinds::TYPEDEF, 1, (place + 2) as u16)
 }
 
-// 1,600 structs, each the child of the next.
-fn children(table: &mut [u8])
-    requires { length table.old ≡ 64000 }
+// Fills the longest table with what `f` gives for each place.
+fn fill<F: Fn(usize) -> Record>(table: &mut [u8], f: F)
+    requires { (length table.old ≡ 64000) × ((p : ℕ) → p < 1600 → F.pre f p) }
 {
-    let mut p = 0;
-    while p < MOST_RECORDS {
-        store::put(table, p, child(p));
-        p += 1;
-    }
-}
-
-// 800 structs, each with a field of the next.
-fn structs_with_fields(table: &mut [u8])
-    requires { length table.old ≡ 64000 }
-{
-    let mut p = 0;
-    while p < MOST_RECORDS {
-        store::put(table, p, holder(p));
-        p += 1;
+    for p in 0..MOST_RECORDS {
+        store::put(table, p, f(p));
     }
 }
 
@@ -83,10 +70,12 @@ fn line<R: Print>(rt: &R, number: u64) {
 fn show<R: Print>(rt: &R, table: &[u8], buffer: &mut [u8], out: &mut [u8])
     requires { (length table.now ≡ 64000) × (length out.old ≡ 64000) }
 {
-    let r = decl_order::check_decl_identifiers(table, buffer, out);
-    line(rt, r.records as u64);
-    let tally = r.tally;
-    line(rt, tally.total as u64);
+    let (listed, found) = match decl_order::check_decl_identifiers(table, buffer, out) {
+        Ok(records) => (records, 0),
+        Err(tally) => (0, tally.total),
+    };
+    line(rt, listed as u64);
+    line(rt, found as u64);
     line(rt, table::name(out, 0) as u64);
 }
 
@@ -94,8 +83,10 @@ fn main(rt: HostRuntime) {
     let mut table = [0u8; TABLE_LENGTH];
     let mut out = [0u8; TABLE_LENGTH];
     let mut buffer = [0u8; 10 * FAULT_LENGTH];
-    children(&mut table);
+    // 1,600 structs, each the child of the next.
+    fill(&mut table, child);
     show(&rt, &table, &mut buffer, &mut out);
-    structs_with_fields(&mut table);
+    // 800 structs, each with a field of the next.
+    fill(&mut table, holder);
     show(&rt, &table, &mut buffer, &mut out);
 }

@@ -24,10 +24,8 @@ use Rattle.faults.proofs.Laws.{logged_none}
 use Rattle.pass_checks.specs.Later.{Outcome, outcome, checked_numbered, finds_later, by_later, later}
 use Rattle.pass_checks.specs.declared.Faulty as checks
 use Rattle.pass_checks.proofs.Laws.{lowest-later}
-use Rattle.decl_order.specs.Contract.{ListedAtStart, DeclIdentifiersChecked}
+use Rattle.decl_order.specs.Contract.{DeclIdentifiersChecked}
 use Rattle.group_sizes.specs.GroupsFirst.{GroupsFirst}
-use Rattle.decl_order.specs.declared.OrderResult as order
-use Rattle.decl_order.proofs.Checks.{checked-total, checked-ordered}
 use Rattle.decl_order.proofs.Names.{unique-names}
 use Rattle.passes.proofs.Groups.{groups-first}
 use Rattle.passes.specs.Listed.{by_listed_pass, by_listed}
@@ -103,26 +101,24 @@ module _ (ls : List Record) (b l t : List ℕ) {x : Result (Unit {0}) checks.Fau
 
 -- ---- the table that pass 2 lists
 
-module _ (i b out b' out' : List ℕ) (r : order.OrderResult) (h : DeclIdentifiersChecked i b out b' out' r) (clean : pass1 (decode i) ≡ []) where
-  pub faulty-order : (t : List ℕ) → 0 < r.tally.total → answered (Faulty 2 r.tally.total) t b' ≡ by_passes (decode i) t b
-  faulty-order t z = told b (pass2 (decode i)) h.faults 2 t ∙ sym (faulty-two (decode i) t b clean (omega (arith, checked-total i b out b' out' r h)))
+module _ (i b : List ℕ) {b' out out' : List ℕ} (clean : pass1 (decode i) ≡ []) where
+  pub faulty-order : (t : List ℕ) {y : Tally} → DeclIdentifiersChecked i b out b' out' (Err y) → answered (Faulty 2 y.total) t b' ≡ by_passes (decode i) t b
+  faulty-order t {y} h = told b (pass2 (decode i)) h.1 2 t ∙ sym (faulty-two (decode i) t b clean (some (pass2 (decode i)) h.0))
+    where
+      some : (fs : List Fault) → ¬ (fs ≡ []) → 0 < length fs
+      some [] n = absurd (n refl)
+      some (g ∷ gs) n = omega arith
 
-  module _ (z : r.tally.total ≤ 0) where
-    accepts : pass2 (decode i) ≡ []
-    accepts = (no-fault b (pass2 (decode i)) h.faults z).1
-
-    order_is : ListedAtStart i out out' r.records
-    order_is = checked-ordered i b out b' out' r h (omega arith)
-
-    pub listed-few : r.records ≤ length (decode i)
-    listed-few = order_is.short
+  module _ {n : ℕ} (h : DeclIdentifiersChecked i b out b' out' (Ok n)) where
+    pub listed-few : n ≤ length (decode i)
+    listed-few = h.2.short
 
     -- what passes 3 to 9 and inlining require of it
-    pub listed-ready : length (decode i) ≤ 1600 → (length (decode (take (40 * r.records) out')) ≤ 1600) × GroupsFirst (decode (take (40 * r.records) out'))
+    pub listed-ready : length (decode i) ≤ 1600 → (length (decode (take (40 * n) out')) ≤ 1600) × GroupsFirst (decode (take (40 * n) out'))
     listed-ready few =
-        rw order_is.records
-        (omega (arith, order_is.count, order_is.short), groups-first (decode i) accepts (unique-names (decode i) clean))
+        rw h.2.records
+        (omega (arith, h.2.count, h.2.short), groups-first (decode i) h.0 (unique-names (decode i) clean))
 
-    pub listed_answer : (t : List ℕ) {x : Answer} → x ≡ by_listed (decode (take (40 * r.records) out')) t b' → x ≡ by_passes (decode i) t b
+    pub listed_answer : (t : List ℕ) {x : Answer} → x ≡ by_listed (decode (take (40 * n) out')) t b' → x ≡ by_passes (decode i) t b
     listed_answer t e =
-        (rw (order_is.records, (no-fault b (pass2 (decode i)) h.faults z).0) at e) ∙ sym (clean-two (decode i) t b clean accepts)
+        (rw (h.2.records, (no-fault b (pass2 (decode i)) h.1 (omega arith)).0) at e) ∙ sym (clean-two (decode i) t b clean h.0)

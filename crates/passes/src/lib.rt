@@ -27,13 +27,13 @@ fn check_order(input: &[u8], listed: &mut [u8], table: &mut [u8], faults: &mut [
     requires { (length (decode input.now) ≤ 1600) × (40 * length (decode input.now) ≤ length listed.old) × (pass1 (decode input.now) ≡ []) }
     ensures { answered result table.new faults.new ≡ by_passes (decode input.now) table.old faults.old }
 {
-    let outcome = decl_order::check_decl_identifiers(input, faults, listed);
-    let tally = outcome.tally;
-    if 0 < tally.total {
-        return Reply::Faulty(2, tally.total);
+    match decl_order::check_decl_identifiers(input, faults, listed) {
+        Err(tally) => Reply::Faulty(2, tally.total),
+        Ok(records) => {
+            let end = RECORD_LENGTH * records;
+            check_listed(&listed[..end], table, faults)
+        }
     }
-    let end = RECORD_LENGTH * outcome.records;
-    check_listed(&listed[..end], table, faults)
 }
 
 // Passes 1 and 2, then what follows.

@@ -41,10 +41,12 @@ fn print_order<R: Print>(rt: &R, input: &[u8], faults: &mut [u8], out: &mut [u8]
     if out.len() < TABLE_LENGTH {
         return;
     }
-    let outcome = decl_order::check_decl_identifiers(input, faults, out);
-    let tally = outcome.tally;
+    let (records, tally) = match decl_order::check_decl_identifiers(input, faults, out) {
+        Ok(records) => (records, faults::no_faults()),
+        Err(tally) => (0, tally),
+    };
     print_faults(rt, tally, faults, b' ');
-    replay_cases::print(rt, outcome.records as u64, b' ');
+    replay_cases::print(rt, records as u64, b' ');
     replay_cases::print(rt, replay_cases::digest(out), b'\n');
 }
 
@@ -88,8 +90,7 @@ fn print_checks<R: Print>(rt: &R, input: &[u8], faults: &mut [u8], out: &mut [u8
     if out.len() < TABLE_LENGTH {
         return;
     }
-    let outcome = decl_order::check_decl_identifiers(input, faults, out);
-    let n = outcome.records;
+    let n = decl_order::check_decl_identifiers(input, faults, out).unwrap_or(0);
     if MOST_RECORDS < n {
         return;
     }

@@ -1,20 +1,14 @@
--- `decl_order::copy_listed` meets its contract: the declarations at the first i places are copied. Assumes nothing.
-use native.Mathlib.Omega.{arith}
-use Prim.Native.Nat.{ℕ, ◌+◌}
-use mathlib.Core.Path.{ap}
+-- `decl_order::copy_listed` meets its contract: the declarations at the places so far are copied. Assumes nothing.
+use Rattle.std.proofs.Common.{arith}
 use Rattle.table.proofs.Laws.{length-decode}
 use Rattle.decl_order.proofs.Copies.{copy_start, place_at, copy-call, copied-long, copy-turn, copy-end}
 use Rattle.decl_order.proofs.copy_listed.Goals as goal
 
-pub loop-i-init : goal.loop-i-init
-loop-i-init c = copy_start _ _ _ _
-
-pub overflow_cast-d : goal.overflow_cast-d
-overflow_cast-d c = omega (arith, c.type_inv.places c.loop-i.i)
+pub loop-place-init : goal.loop-place-init
+loop-place-init c = copy_start _ _ _
 
 pub member_count-m-requires : goal.member_count-m-requires
-member_count-m-requires c =
-    place_at _ _ _ _ c.requires.0 c.requires.1 _ c.loop-i-test.true
+member_count-m-requires c = place_at _ _ _ c.requires _ c.loop-place-test.true
 
 pub overflow_add-m : goal.overflow_add-m
 overflow_add-m c =
@@ -22,20 +16,15 @@ overflow_add-m c =
 
 pub copy-requires : goal.copy-requires
 copy-requires c =
-    copy-call _ _ _ _ c.requires.0 c.requires.1 _ _ _ c.loop-i.invariant c.loop-i-test.true _ (ap (λ (x : ℕ). 1 + x) c.member_count-m.ensures.0)
+    copy-call _ _ _ c.requires c.loop-place.invariant c.loop-place-test.true c.member_count-m.ensures.0
 
 pub overflow_add-count : goal.overflow_add-count
 overflow_add-count c =
-    omega (arith, (copy-call _ _ _ _ c.requires.0 c.requires.1 _ _ _ c.loop-i.invariant c.loop-i-test.true _ (ap (λ (x : ℕ). 1 + x) c.member_count-m.ensures.0)).1, copied-long _ _ _ _ c.requires.0 c.requires.1 _ _ _ c.loop-i.invariant)
+    omega (arith, (copy-call _ _ _ c.requires c.loop-place.invariant c.loop-place-test.true c.member_count-m.ensures.0).1, copied-long _ _ _ c.requires c.loop-place.invariant)
 
-pub loop-i-preserved : goal.loop-i-preserved
-loop-i-preserved c =
-    copy-turn _ _ _ _ c.requires.0 c.requires.1 _ _ _ c.loop-i.invariant c.loop-i-test.true _ (ap (λ (x : ℕ). 1 + x) c.member_count-m.ensures.0) _ c.copy.ensures
-
-pub shape_of-out : goal.shape_of-out
-shape_of-out c =
-    copied-long _ _ _ _ c.requires.0 c.requires.1 _ _ _ c.loop-i.invariant
+pub loop-place-preserved : goal.loop-place-preserved
+loop-place-preserved c =
+    copy-turn _ _ _ c.requires c.loop-place.invariant c.loop-place-test.true c.member_count-m.ensures.0 c.copy.ensures
 
 pub returns : goal.returns
-returns c =
-    copy-end _ _ _ _ c.requires.0 c.requires.1 _ _ _ c.loop-i.invariant c.loop-i-test.false
+returns c = copy-end _ _ _ c.requires c.loop-place.invariant c.loop-place-test.false
