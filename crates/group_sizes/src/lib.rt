@@ -19,12 +19,9 @@ fn size_here(targets: &[u16], sizes: &[u16], kind: u8, place: usize, bound: bool
     ensures { result ≡ size_here targets.now sizes.now kind place bound }
 {
     if kind == kinds::GROUP_FIELD {
-        let g = targets[place] as usize;
-        sizes[g]
-    } else if bound {
-        0
+        sizes[targets[place] as usize]
     } else {
-        1
+        u16::from(!bound)
     }
 }
 
@@ -33,40 +30,24 @@ fn size_after(table: &[u8], targets: &[u16], sizes: &[u16], decl: usize) -> usiz
     requires { SizingAfter (decode table.now) targets.now sizes.now decl }
     ensures { result ≡ size_from targets.now sizes.now (decode table.now) (decl + 1) }
 {
-    let end = table::count(table);
     let mut s: usize = 0;
     let mut after = false;
-    let mut p = decl + 1;
-    while p < end {
-        let q = p;
-        let k = table::kind(table, q);
+    for p in decl + 1..table::count(table) {
+        let k = table::kind(table, p);
         if kinds::is_decl(k) {
             return s;
         }
         let c = is_constraint_or_condition(k);
         let bound = c & after;
         after = (k == kinds::GROUP_FIELD) | bound;
-        p = q + 1;
-        let x = size_here(targets, sizes, k, q, bound);
+        let x = size_here(targets, sizes, k, p, bound);
         s += x as usize;
     }
     s
 }
 
-// One record more than a table may have, and the size that stands for it and all above.
+// One record more than a table may have: the size that stands for it and all above.
 const TOO_MANY: usize = MOST_RECORDS + 1;
-
-const SATURATED: u16 = TOO_MANY as u16;
-
-fn saturated(size: usize) -> u16
-    ensures { result ≡ min 1601 size }
-{
-    if size < TOO_MANY {
-        size as u16
-    } else {
-        SATURATED
-    }
-}
 
 // Writes the sizes of the declarations, in the order of the table: each group stands before what holds a field of it.
 pub fn measure(table: &[u8], targets: &[u16], sizes: &mut [u16])
@@ -74,15 +55,10 @@ pub fn measure(table: &[u8], targets: &[u16], sizes: &mut [u16])
     requires groups_first { GroupsFirst (decode table.now) }
     ensures { Sized (decode table.now) targets.now sizes.new (length (decode table.now)) }
 {
-    let end = table::count(table);
-    let mut d = 0;
-    while d < end {
-        let q = d;
-        d = q + 1;
-        let k = table::kind(table, q);
-        if kinds::is_decl(k) {
-            let s = size_after(table, targets, sizes, q);
-            sizes[q] = saturated(s);
+    for d in 0..table::count(table) {
+        if kinds::is_decl(table::kind(table, d)) {
+            let s = size_after(table, targets, sizes, d);
+            sizes[d] = s.min(TOO_MANY) as u16;
         }
     }
 }
@@ -92,15 +68,10 @@ pub fn total(table: &[u8], sizes: &[u16]) -> usize
     requires { (length (decode table.now) ≤ 1600) × (length (decode table.now) ≤ length sizes.now) }
     ensures { result ≡ total_size sizes.now (decode table.now) (length (decode table.now)) }
 {
-    let end = table::count(table);
     let mut s: usize = 0;
-    let mut d = 0;
-    while d < end {
-        let q = d;
-        d = q + 1;
-        if is_kept(table::kind(table, q)) {
-            let x = sizes[q] as usize;
-            s += 1 + x;
+    for (d, x) in sizes[..table::count(table)].iter().enumerate() {
+        if is_kept(table::kind(table, d)) {
+            s += 1 + *x as usize;
         }
     }
     s

@@ -12,14 +12,9 @@ fn first_group_field(table: &[u8]) -> usize
     ensures { (result ≤ length (decode table.now)) × ((targets : List ℕ) → length (decode table.now) ≤ length targets → TargetsKnown (decode table.now) targets result) }
 {
     let end = table::count(table);
-    let mut p = 0;
-    while p < end {
-        if table::kind(table, p) == kinds::GROUP_FIELD {
-            return p;
-        }
-        p += 1;
-    }
-    p
+    (0..end)
+        .find(|p| table::kind(table, *p) == kinds::GROUP_FIELD)
+        .unwrap_or(end)
 }
 
 // Writes, at the place of each group field from `from` on, the place of the declaration that it names: one search for each.
@@ -28,15 +23,11 @@ fn fill_from(table: &[u8], starts: &[u16], from: usize, targets: &mut [u16])
     requires groups_first { GroupsFirst (decode table.now) × Starts (decode table.now) starts.now }
     ensures { TargetsKnown (decode table.now) targets.new (length (decode table.now)) }
 {
-    let end = table::count(table);
-    let mut p = from;
-    while p < end {
-        let q = p;
-        p = q + 1;
-        if table::kind(table, q) == kinds::GROUP_FIELD {
-            let x = table::second(table, q);
+    for p in from..table::count(table) {
+        if table::kind(table, p) == kinds::GROUP_FIELD {
+            let x = table::second(table, p);
             if let Some(g) = declarations::decl_named(table, starts, x) {
-                targets[q] = g as u16;
+                targets[p] = g as u16;
             }
         }
     }

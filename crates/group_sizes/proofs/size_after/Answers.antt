@@ -1,7 +1,5 @@
 -- `group_sizes::size_after` meets its contract: what is counted and what is left make the whole. Assumes nothing.
-use native.Mathlib.Omega.{arith}
-use mathlib.Core.Path.{sym, ◌∙◌}
-use mathlib.Core.Logic.{inl, inr}
+use Rattle.std.proofs.Common.{arith, sym, ◌∙◌, inl, inr}
 use Rattle.rules.specs.Table.{decode}
 use Rattle.group_sizes.proofs.Fields.{Seen}
 use Rattle.group_sizes.proofs.Measures.{sizing-start, sizing-next, sizing-end, target-in}
@@ -13,34 +11,28 @@ seen : (c : After-is_constraint_or_condition-c) → Seen (decode c.args.table.no
 seen c =
     let e = c.kind-k.ensures in
     record {
-      below = omega (arith, c.loop-p.invariant.1, c.loop-p-test.true);
+      below = omega arith;
       inside = rw (← e) (sym c.is_decl.ensures ∙ c.if-is_decl.false);
       is-kind = e;
       is_bound = rw (← e) c.is_constraint_or_condition-c.ensures;
     }
 
 pub loop-p-init : goal.loop-p-init
-loop-p-init c = (sizing-start _ _ _ _ c.requires.4, c.count-end.ensures)
+loop-p-init c = sizing-start _ _ _ _ c.requires.4
 
 pub returns-then-is_decl : goal.returns-then-is_decl
 returns-then-is_decl c =
-    let w = c.loop-p.invariant in
-    sizing-end w.0 (inl (omega (arith, w.1, c.loop-p-test.true), rw (← c.kind-k.ensures) (sym c.is_decl.ensures ∙ c.if-is_decl.true)))
+    sizing-end c.loop-p.invariant (inl (omega arith, rw (← c.kind-k.ensures) (sym c.is_decl.ensures ∙ c.if-is_decl.true)))
 
 pub size_here-x-requires : goal.size_here-x-requires
 size_here-x-requires c =
     let h = seen (goal.at.size_here-x-requires c).After-is_constraint_or_condition-c in
     (omega (arith, h.below, c.requires.1.long), target-in c.args.sizes.now c.requires.1 c.requires.2 h)
 
-pub overflow_add-s : goal.overflow_add-s
-overflow_add-s c =
-    omega (arith, c.loop-p.invariant.0.small, c.loop-p.invariant.1, c.loop-p-test.true, c.requires.0, c.size_here-x.type_inv)
-
 pub loop-p-preserved : goal.loop-p-preserved
 loop-p-preserved c =
-    let w = c.loop-p.invariant in
     let h = seen (goal.at.loop-p-preserved c).After-is_constraint_or_condition-c in
-    (sizing-next w.0 h (let o = c.size_here-x.type_inv in omega arith) c.size_here-x.ensures, w.1)
+    sizing-next c.loop-p.invariant h (omega (arith, c.size_here-x.type_inv)) c.size_here-x.ensures
 
 pub returns : goal.returns
-returns c = let w = c.loop-p.invariant in sizing-end w.0 (inr (omega (arith, w.1, c.loop-p-test.false)))
+returns c = sizing-end c.loop-p.invariant (inr (omega (arith, c.loop-p.auto.p-end)))
