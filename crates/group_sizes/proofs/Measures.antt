@@ -85,9 +85,6 @@ module _ (rs : List Record) (t : GroupsFirst rs) (targets : List ℕ) (y : Targe
 
 -- ---- all sizes
 
-pub sized-start : (rs : List Record) (targets sizes : List ℕ) → length rs ≤ length sizes → Sized rs targets sizes 0
-sized-start rs targets sizes l = record { long = l; right = λ d h. absurd (omega arith) }
-
 module _ {rs : List Record} {targets sizes : List ℕ} {q : ℕ} (w : Sized rs targets sizes q) where
   pub sized-other : is_decl (at rs q).kind ≡ false → Sized rs targets sizes (q + 1)
   sized-other o = record { long = w.long; right = λ d h i. go d i (dec_lt d q) h }
@@ -106,9 +103,6 @@ module _ {rs : List Record} {targets sizes : List ℕ} {q : ℕ} (w : Sized rs t
           let x : d ≡ q = omega arith in
           let b = w.long in
           rw (x, from-kept rs t targets y sizes q v q (omega arith) l i, get_or-set_same sizes q v 0 (omega arith)) (e ∙ ap (min 1601) f)
-
-pub sized-end : {rs : List Record} {targets sizes : List ℕ} {n m : ℕ} → Sized rs targets sizes n → n ≡ m → Sized rs targets sizes m
-sized-end w e = rw e at w
 
 -- ---- the whole
 
