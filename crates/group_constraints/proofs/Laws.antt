@@ -1,6 +1,6 @@
 -- Constraints a step at a time: the stack, and what the constraint that holds makes of a record. Assumes nothing.
 use Rattle.std.proofs.Common.{None, Option, Some, ℕ}
-use Prim.Native.Nat.{ℕ, ◌+◌, ◌-◌, ◌<◌, ◌≤◌}
+use Prim.Native.Nat.{ℕ, suc, zero, ◌+◌, ◌-◌, ◌<◌, ◌≤◌}
 use mathlib.Core.Path.{◌≡◌, refl, sym, ap, ◌∙◌}
 use mathlib.Core.List.{List, [], ◌∷◌, ◌++◌, append_assoc, append-nil}
 use native.Mathlib.Omega.{arith}
@@ -8,9 +8,15 @@ use native.Mathlib.Numerals.{add-one}
 use borrow.Author.Tests.{eq-eqb, ne_eqb}
 use lib.ListN.{length, take, set, length-set}
 use lib.Seq.{take-suc-set}
+use Rattle.std.proofs.Common.{find, reverse, get_or, Bool, true, false, MatchOption}
+use Rattle.std.proofs.lemmas.List.{reverse-append}
 use Rattle.rules.specs.Table.{at}
-use Rattle.rules.specs.InlineGroups.{kept, fixed_scalar, fixed_enum, lookup, under, inlined_record, constraints}
+use Rattle.rules.specs.Places.{nearest}
+use lib.Dec.{eqb}
+use lib.Seq.{take-suc, take-length}
+use Rattle.rules.specs.InlineGroups.{entry_at, kept, fixed_scalar, fixed_enum, lookup, under, inlined_record, constraints}
 use Rattle.rules.specs.declared.Record.{Record}
+use Rattle.rules.specs.declared.Inlined.{Inlined}
 use Rattle.table.proofs.Laws.{left-suc, left-none}
 use Rattle.group_constraints.specs.Constraints.{constraints_from}
 
@@ -74,26 +80,40 @@ module _ {rs : List Record} {env₀ : List ℕ} {n p : ℕ} {env : List ℕ} {m 
   pub push-end : length rs ≤ i → (m ≡ n + length (constraints_from rs p)) × (take m env ≡ take n env₀ ++ constraints_from rs p)
   push-end l = pushed (more-end rs (length rs) i l)
 
--- ---- what the constraint that was found makes of a record
+-- ---- the constraint that holds, and what it makes of a record
 
-module _ (rs : List Record) (env : List ℕ) (r : Record) where
-  module _ {f : Option ℕ} (e : f ≡ lookup rs env r.name) where
-    pub scalar-fixed : {q : ℕ} → r.kind ≡ 31 → f ≡ Some q → fixed_scalar r (at rs q) ≡ inlined_record rs env r
-    unfolding inlined_record under
-    scalar-fixed k g = rw (eq-eqb _ _ k, ← e, g)
+-- of the first n entries
+find-nearest : (f : ℕ → Bool) (env : List ℕ) (n : ℕ) → n ≤ length env → find f (reverse (take n env)) ≡ entry_at env (nearest (λ i. f (get_or env i 0)) n)
+unfolding nearest
+find-nearest f env zero h = refl
+find-nearest f env (suc n) h = go (find-nearest f env n (omega arith)) (f (get_or env n 0)) refl
+  where
+    last : reverse (take (suc n) env) ≡ get_or env n 0 ∷ reverse (take n env)
+    last = rw (take-suc env n 0 (omega arith), reverse-append)
 
-    pub scalar-free : r.kind ≡ 31 → f ≡ None → kept r ≡ inlined_record rs env r
-    unfolding inlined_record under
-    scalar-free k g = rw (eq-eqb _ _ k, ← e, g)
+    go : find f (reverse (take n env)) ≡ entry_at env (nearest (λ i. f (get_or env i 0)) n) → (b : Bool) → f (get_or env n 0) ≡ b → find f (reverse (take (suc n) env)) ≡ entry_at env (nearest (λ i. f (get_or env i 0)) (suc n))
+    go r true e = rw (last, nearest, e)
+    go r false e = rw (last, nearest, e) r
 
-    pub enum_fixed : {q : ℕ} → ¬ (r.kind ≡ 31) → r.kind ≡ 33 → f ≡ Some q → fixed_enum r (at rs q) ≡ inlined_record rs env r
-    unfolding inlined_record under
-    enum_fixed j k g = rw (ne_eqb _ _ j, eq-eqb _ _ k, ← e, g)
+pub find-lookup : (rs : List Record) (env : List ℕ) (x : ℕ) → find (λ q. eqb (at rs q).name x) (reverse env) ≡ lookup rs env x
+unfolding lookup
+find-lookup rs env x = rw take-length at (find-nearest (λ q. eqb (at rs q).name x) env (length env) (omega arith))
 
-    pub enum-free : ¬ (r.kind ≡ 31) → r.kind ≡ 33 → f ≡ None → kept r ≡ inlined_record rs env r
-    unfolding inlined_record under
-    enum-free j k g = rw (ne_eqb _ _ j, eq-eqb _ _ k, ← e, g)
+module _ (rs : List Record) (env : List ℕ) (r : Record) {x : Inlined} where
+  -- as fix makes it from the constraint that was found
+  under-found : (fix : Record → Record → Inlined) (f : Option ℕ) → MatchOption f (x ≡ kept r) (λ q. x ≡ fix r (at rs q)) → x ≡ under fix rs r f
+  unfolding under
+  under-found fix None h = h
+  under-found fix (Some q) h = h
 
-  pub other-kept : ¬ (r.kind ≡ 31) → ¬ (r.kind ≡ 33) → kept r ≡ inlined_record rs env r
+  pub scalar-made : MatchOption (lookup rs env r.name) (x ≡ kept r) (λ q. x ≡ fixed_scalar r (at rs q)) → r.kind ≡ 31 → x ≡ inlined_record rs env r
   unfolding inlined_record
-  other-kept j k = rw (ne_eqb _ _ j, ne_eqb _ _ k)
+  scalar-made h k = rw (eq-eqb _ _ k) (under-found fixed_scalar _ h)
+
+  pub enum_made : MatchOption (lookup rs env r.name) (x ≡ kept r) (λ q. x ≡ fixed_enum r (at rs q)) → ¬ (r.kind ≡ 31) → r.kind ≡ 33 → x ≡ inlined_record rs env r
+  unfolding inlined_record
+  enum_made h j k = rw (ne_eqb _ _ j, eq-eqb _ _ k) (under-found fixed_enum _ h)
+
+pub other-kept : (rs : List Record) (env : List ℕ) (r : Record) → ¬ (r.kind ≡ 31) → ¬ (r.kind ≡ 33) → kept r ≡ inlined_record rs env r
+unfolding inlined_record
+other-kept rs env r j k = rw (ne_eqb _ _ j, ne_eqb _ _ k)

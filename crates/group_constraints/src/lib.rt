@@ -1,27 +1,22 @@
 // Constraints: the stack of their places, the one that holds, and what it makes of a field.
 #![tactic(auto)]
 
-ghost use Rattle.std.specs.Prelude.{◌≡◌, ◌++◌, ◌+◌, ◌≤◌, length, take};
-ghost use Rattle.rules.specs.Table.{decode};
-ghost use Rattle.rules.specs.InlineGroups.{lookup, fixed_scalar, fixed_enum, inlined_record};
+ghost use Rattle.std.specs.Prelude.{◌≡◌, ◌++◌, ◌+◌, ◌≤◌, length, take, reverse, nat_eq, MatchOption};
+ghost use Rattle.std.specs.List.{find};
+ghost use Rattle.rules.specs.Table.{decode, at};
+ghost use Rattle.rules.specs.InlineGroups.{kept, lookup, fixed_scalar, fixed_enum, inlined_record};
 ghost use Rattle.group_constraints.specs.Constraints.{constraints_from};
 
 use rules::{Inlined, Record};
 
 // The constraint of `name` that holds: of one name the innermost, then the last.
-fn lookup(table: &[u8], env: &[u16], name: u16) -> Option<usize>
-    ensures { result ≡ lookup (decode table.now) env.now name }
+fn lookup(table: &[u8], env: &[u16], name: u16) -> Option<u16>
+    ensures { result ≡ find (λ q. nat_eq (at (decode table.now) q).name name) (reverse env.now) }
 {
-    let n = env.len();
-    let mut i = n;
-    while 0 < i {
-        let q = env[i - 1] as usize;
-        if table::name(table, q) == name {
-            return Some(q);
-        }
-        i -= 1;
-    }
-    None
+    env.iter()
+        .rev()
+        .copied()
+        .find(|q| table::name(table, usize::from(*q)) == name)
 }
 
 // A Scalar that `constraint` fixes; it needs a value.
@@ -35,11 +30,8 @@ fn fixed_scalar(scalar: Record, constraint: Record) -> Inlined
             name: 0, // a fixed field has none
             second: 0,
             third: 0,
-            one: scalar.one,
             two: constraint.one,
-            key: scalar.key,
-            start: scalar.start,
-            end: scalar.end,
+            ..scalar
         },
         fit: constraint.marks % 2 == 1,
     }
@@ -54,15 +46,23 @@ fn fixed_enum(typedef: Record, constraint: Record) -> Inlined
             kind: kinds::FIXED_ENUM,
             marks: 0,
             name: 0,
-            second: typedef.second,
             third: constraint.second,
             one: 0,
             two: 0,
-            key: typedef.key,
-            start: typedef.start,
-            end: typedef.end,
+            ..typedef
         },
-        fit: !(constraint.second == 0),
+        fit: constraint.second != 0,
+    }
+}
+
+// `r` as `fix` makes it from the constraint that holds, or as it is where none does.
+fn under<F: Fn(Record, Record) -> Inlined>(table: &[u8], env: &[u16], r: Record, fix: F) -> Inlined
+    requires { F.IsAlwaysCallable fix }
+    ensures { MatchOption (lookup (decode table.now) env.now r.name) (result ≡ kept r) (λ q. F.post fix r (at (decode table.now) q) result) }
+{
+    match lookup(table, env, r.name) {
+        Some(q) => fix(r, records::at(table, usize::from(q))),
+        None => Inlined { made: r, fit: true },
     }
 }
 
@@ -71,15 +71,9 @@ pub fn inlined_record(table: &[u8], env: &[u16], r: Record) -> Inlined
     ensures { result ≡ inlined_record (decode table.now) env.now r }
 {
     if r.kind == kinds::SCALAR {
-        match lookup(table, env, r.name) {
-            Some(q) => fixed_scalar(r, records::at(table, q)),
-            None => Inlined { made: r, fit: true },
-        }
+        under(table, env, r, fixed_scalar)
     } else if r.kind == kinds::TYPEDEF {
-        match lookup(table, env, r.name) {
-            Some(q) => fixed_enum(r, records::at(table, q)),
-            None => Inlined { made: r, fit: true },
-        }
+        under(table, env, r, fixed_enum)
     } else {
         Inlined { made: r, fit: true }
     }
