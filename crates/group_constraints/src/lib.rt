@@ -1,13 +1,16 @@
 // Constraints: the stack of their places, the one that holds, and what it makes of a field.
 #![tactic(auto)]
 
-ghost use Rattle.std.specs.Prelude.{◌≡◌, ◌++◌, ◌+◌, ◌≤◌, length, take, reverse, nat_eq, MatchOption};
+pub mod stack;
+
+ghost use Rattle.std.specs.Prelude.{◌≡◌, ◌++◌, ◌+◌, ◌≤◌, length, reverse, nat_eq, MatchOption};
 ghost use Rattle.std.specs.List.{find};
 ghost use Rattle.rules.specs.Table.{decode, at};
 ghost use Rattle.rules.specs.InlineGroups.{kept, lookup, fixed_scalar, fixed_enum, inlined_record};
 ghost use Rattle.group_constraints.specs.Constraints.{constraints_from};
 
 use rules::{Inlined, Record};
+use stack::Stack;
 
 // The constraint of `name` that holds: of one name the innermost, then the last.
 fn lookup(table: &[u8], env: &[u16], name: u16) -> Option<u16>
@@ -66,37 +69,31 @@ fn under<F: Fn(Record, Record) -> Inlined>(table: &[u8], env: &[u16], r: Record,
     }
 }
 
-// `r` under the constraints at the places of `env`.
-pub fn inlined_record(table: &[u8], env: &[u16], r: Record) -> Inlined
+// `r` under the constraints on the stack.
+pub fn inlined_record(table: &[u8], env: &Stack, r: Record) -> Inlined
     ensures { result ≡ inlined_record (decode table.now) env.now r }
 {
+    let places = env.as_slice();
     if r.kind == kinds::SCALAR {
-        under(table, env, r, fixed_scalar)
+        under(table, places, r, fixed_scalar)
     } else if r.kind == kinds::TYPEDEF {
-        under(table, env, r, fixed_enum)
+        under(table, places, r, fixed_enum)
     } else {
         Inlined { made: r, fit: true }
     }
 }
 
-// Puts the places of the constraints of the field before `place` on the stack, which holds `count`. Returns how many it holds then.
-pub fn push_constraints(table: &[u8], place: usize, env: &mut [u16], count: usize) -> usize
-    requires { (length (decode table.now) ≤ 1600) × (count + length (constraints_from (decode table.now) place) ≤ length env.old) }
-    ensures { (result ≡ count + length (constraints_from (decode table.now) place)) × (take result env.new ≡ take count env.old ++ constraints_from (decode table.now) place) }
+// Puts the places of the constraints of the field before `place` on the stack.
+pub fn push_constraints(table: &[u8], place: usize, env: &mut Stack)
+    requires { (length (decode table.now) ≤ 1600) × (length env.old + length (constraints_from (decode table.now) place) ≤ 1600) }
+    ensures { env.new ≡ env.old ++ constraints_from (decode table.now) place }
 {
-    let end = table::count(table);
-    let mut i = place;
-    let mut m = count;
-    while i < end {
-        let q = i;
-        let k = table::kind(table, q);
-        i = q + 1;
+    for p in place..table::count(table) {
+        let k = table::kind(table, p);
         if k == kinds::CONSTRAINT {
-            env[m] = q as u16;
-            m += 1;
+            env.push(p as u16);
         } else if k != kinds::CONDITION {
-            return m;
+            return;
         }
     }
-    m
 }

@@ -11,7 +11,7 @@ use native.Mathlib.Decide.{dec_lt}
 use borrow.Author.Tests.{eq-eqb, ne_eqb, eqb-true}
 use lib.Dec.{eqb}
 use lib.ListN.{length, get_or, take, length-append}
-use lib.Seq.{take-take, length-take-le, take-append-le}
+use lib.Seq.{take-append-le, take-length}
 use Rattle.rules.specs.Table.{at}
 use Rattle.rules.specs.Places.{nearest, holds_at, decl_named}
 use Rattle.rules.specs.Kinds.{is_decl}
@@ -162,18 +162,17 @@ module _ (rs : List Record) (targets sizes : List ℕ) (t : GroupsFirst rs) (y :
 
 -- ---- the loop over the records of the declaration at d, at place p: what is written and what is left make the whole
 
-pub record Walking (rs : List Record) (targets sizes : List ℕ) (d : ℕ) (env₀ : List ℕ) (n : ℕ) (out₀ : List ℕ) (a : ExpandProgress) (env out : List ℕ) (s : ExpandProgress) (after : Bool) (p : ℕ) : Type 0 where
+pub record Walking (rs : List Record) (targets sizes : List ℕ) (d : ℕ) (env₀ : List ℕ) (out₀ : List ℕ) (a : ExpandProgress) (env out : List ℕ) (s : ExpandProgress) (after : Bool) (p : ℕ) : Type 0 where
   pub past : d < p
   pub here : nearest (holds_at rs Decl) p ≡ Some d
   pub flag : after ≡ after_group rs p
-  pub made : (k : ℕ) → d ≤ k → added_all (output a out₀) (fields_from (expand rs k) rs (take n env₀) (d + 1)) ≡ added_all (output s out) (fields_from (expand rs k) rs (take n env₀) p)
-  pub kept : take n env ≡ take n env₀
-  pub env-long : length env ≡ length env₀
+  pub made : (k : ℕ) → d ≤ k → added_all (output a out₀) (fields_from (expand rs k) rs (env₀) (d + 1)) ≡ added_all (output s out) (fields_from (expand rs k) rs (env₀) p)
+  pub kept : env ≡ env₀
   pub out-long : length out ≡ length out₀
   pub counted : s.count + size_from targets sizes rs p ≡ a.count + get_or sizes d 0
 
-module _ {rs : List Record} {targets sizes : List ℕ} {d : ℕ} {env₀ : List ℕ} {n : ℕ} {out₀ : List ℕ} {a : ExpandProgress} (y : ExpandReady rs targets sizes d env₀ n out₀ a) where
-  pub walk_start : Walking rs targets sizes d env₀ n out₀ a env₀ out₀ a false (d + 1)
+module _ {rs : List Record} {targets sizes : List ℕ} {d : ℕ} {env₀ : List ℕ} {out₀ : List ℕ} {a : ExpandProgress} (y : ExpandReady rs targets sizes d env₀ out₀ a) where
+  pub walk_start : Walking rs targets sizes d env₀ out₀ a env₀ out₀ a false (d + 1)
   walk_start =
       let i = y.decl.1 in
       let l = y.decl.0 in
@@ -185,35 +184,30 @@ module _ {rs : List Record} {targets sizes : List ℕ} {d : ℕ} {env₀ : List 
         flag = after-start rs d i;
         made = λ k h. refl;
         kept = refl;
-        env-long = refl;
         out-long = refl;
         counted = omega arith;
       }
 
-  module _ {env out : List ℕ} {s : ExpandProgress} {after : Bool} {p : ℕ} (w : Walking rs targets sizes d env₀ n out₀ a env out s after p) where
+  module _ {env out : List ℕ} {s : ExpandProgress} {after : Bool} {p : ℕ} (w : Walking rs targets sizes d env₀ out₀ a env out s after p) where
     -- nothing is left
-    pub walk_end : Ends rs p → Expanded rs sizes d env₀ n out₀ a env out s
+    pub walk_end : Ends rs p → Expanded rs sizes d env₀ out₀ a env out s
     unfolding expand added_all
     walk_end e =
         let c = w.counted in
         let q = size-end rs p e targets sizes in
         record { made = made; kept = w.kept; counted = omega arith }
       where
-        made : (k : ℕ) → d < k → output s out ≡ added_all (output a out₀) (expand rs k (take n env₀) d)
+        made : (k : ℕ) → d < k → output s out ≡ added_all (output a out₀) (expand rs k (env₀) d)
         made zero h = absurd (not-suc-le-zero h)
-        made (suc k) h = sym (w.made k (le_of_suc-le-suc h) ∙ rw (fields-end rs p e (expand rs k) (take n env₀)))
-
-    -- the stack is as long as at the start
-    pub env-stack : n ≤ length env
-    env-stack = let h = y.stack in let e = w.env-long in omega arith
+        made (suc k) h = sym (w.made k (le_of_suc-le-suc h) ∙ rw (fields-end rs p e (expand rs k) (env₀)))
 
     module _ (l : p < length rs) (o : is_decl (at rs p).kind ≡ false) {b : Bool} (be : b ≡ (eqb (at rs p).kind 34 || (is_constraint_or_condition (at rs p).kind && after))) where
       -- what the record at p becomes is written
       walk-next : {env' out' : List ℕ} {s' : ExpandProgress}
-          → ((k : ℕ) → d ≤ k → output s' out' ≡ added_all (output s out) (inlined_field (expand rs k) rs (take n env₀) p))
-          → s'.count ≡ s.count + size_at targets sizes rs p → take n env' ≡ take n env → length env' ≡ length env → length out' ≡ length out
-          → Walking rs targets sizes d env₀ n out₀ a env' out' s' b (p + 1)
-      walk-next new c e f g =
+          → ((k : ℕ) → d ≤ k → output s' out' ≡ added_all (output s out) (inlined_field (expand rs k) rs (env₀) p))
+          → s'.count ≡ s.count + size_at targets sizes rs p → env' ≡ env → length out' ≡ length out
+          → Walking rs targets sizes d env₀ out₀ a env' out' s' b (p + 1)
+      walk-next new c e g =
           let h = w.past in
           let q = w.counted in
           let z = size-next rs p l o targets sizes in
@@ -221,9 +215,8 @@ module _ {rs : List Record} {targets sizes : List ℕ} {d : ℕ} {env₀ : List 
             past = omega arith;
             here = here-next rs p o w.here;
             flag = be ∙ after_next rs p w.flag;
-            made = λ k i. w.made k i ∙ rw (fields-next rs p l o (expand rs k) (take n env₀), added-append, ← new k i);
+            made = λ k i. w.made k i ∙ rw (fields-next rs p l o (expand rs k) (env₀), added-append, ← new k i);
             kept = e ∙ w.kept;
-            env-long = f ∙ w.env-long;
             out-long = g ∙ w.out-long;
             counted = omega arith;
           }
@@ -258,31 +251,31 @@ module _ {rs : List Record} {targets sizes : List ℕ} {d : ℕ} {env₀ : List 
         run : Run rs d (p + 1) (length rs - (p + 1))
         run = constraints-run rs d (length rs - (p + 1)) (p + 1) (here-next rs p o w.here)
 
-        own-fits : n + length (own_constraints rs p) + (p + 1) ≤ length env
+        own-fits : length env + length (own_constraints rs p) + (p + 1) ≤ 1600
         own-fits =
             let r = run in
             let i = r.within in
             let j = r.enough in
             let x = y.spare r.end (omega arith) r.here in
-            let e = w.env-long in
+            let e = ap length w.kept in
             omega arith
 
-        pub call-push : (length rs ≤ 1600) × (n + length (own_constraints rs p) ≤ length env)
+        pub call-push : (length rs ≤ 1600) × (length env + length (own_constraints rs p) ≤ 1600)
         call-push = let h = own-fits in (y.few, omega arith)
 
         -- it has no fields
-        pub turn-empty : get_or sizes (get_or targets p 0) 0 ≡ 0 → Walking rs targets sizes d env₀ n out₀ a env out s b (p + 1)
+        pub turn-empty : get_or sizes (get_or targets p 0) 0 ≡ 0 → Walking rs targets sizes d env₀ out₀ a env out s b (p + 1)
         unfolding added_all g
         turn-empty z =
             let q = size-found in
             let v = before in
-            let none : (k : ℕ) → d ≤ k → inlined_field (expand rs k) rs (take n env₀) p ≡ [] =
-            λ k h. field-group (expand rs k) (take n env₀) ∙ expand-none rs targets sizes y.groups y.resolved y.sized k (take n env₀ ++ own_constraints rs p) g (omega arith) (named_in rs (at rs p).second found) (named-declares rs (at rs p).second found) z in
-            walk-next (λ k h. sym (rw (none k h))) (omega arith) refl refl refl
+            let none : (k : ℕ) → d ≤ k → inlined_field (expand rs k) rs (env₀) p ≡ [] =
+            λ k h. field-group (expand rs k) (env₀) ∙ expand-none rs targets sizes y.groups y.resolved y.sized k (env₀ ++ own_constraints rs p) g (omega arith) (named_in rs (at rs p).second found) (named-declares rs (at rs p).second found) z in
+            walk-next (λ k h. sym (rw (none k h))) (omega arith) refl refl
 
         -- its fields are written
-        module _ {m : ℕ} {env₁ : List ℕ} (pm : (m ≡ n + length (own_constraints rs p)) × (take m env₁ ≡ take n env ++ own_constraints rs p)) (el : length env₁ ≡ length env) where
-          pub call-expand : {x : ℕ} → d ≡ x → (get_or targets p 0 < x) × ExpandReady rs targets sizes (get_or targets p 0) env₁ m out s
+        module _ {env₁ : List ℕ} (pm : env₁ ≡ env ++ own_constraints rs p) where
+          pub call-expand : {x : ℕ} → d ≡ x → (get_or targets p 0 < x) × ExpandReady rs targets sizes (get_or targets p 0) env₁ out s
           unfolding g
           call-expand e = (
             (let h = before in omega arith),
@@ -292,42 +285,33 @@ module _ {rs : List Record} {targets sizes : List ℕ} {d : ℕ} {env₀ : List 
               resolved = y.resolved;
               sized = y.sized;
               decl = (named_in rs (at rs p).second found, named-declares rs (at rs p).second found);
-              stack = (let h = own-fits in let q = pm.0 in omega arith);
-              spare = λ x i h. (let j = here-past rs d y.decl.1 x h before in let q = pm.0 in let r = own-fits in let v = w.past in omega arith);
+              spare = λ x i h. (let j = here-past rs d y.decl.1 x h before in let q = simp length-append at (ap length pm) in let r = own-fits in let v = w.past in omega arith);
               room = (let h = size-left in let q = size-found in let r = y.room in omega arith);
               wide = (let h = size-left in let q = size-found in let e = w.out-long in let v = y.wide in omega arith);
             },
           )
 
-          pub turn-group : {env₂ out₂ : List ℕ} {s₂ : ExpandProgress} → Expanded rs sizes (get_or targets p 0) env₁ m out s env₂ out₂ s₂ → length env₂ ≡ length env₁ → length out₂ ≡ length out
-              → Walking rs targets sizes d env₀ n out₀ a env₂ out₂ s₂ b (p + 1)
+          pub turn-group : {env₂ env₃ out₂ : List ℕ} {s₂ : ExpandProgress} → Expanded rs sizes (get_or targets p 0) env₁ out s env₂ out₂ s₂ → env₃ ≡ take (length env) env₂ → length out₂ ≡ length out
+              → Walking rs targets sizes d env₀ out₀ a env₃ out₂ s₂ b (p + 1)
           unfolding g
-          turn-group {env₂} {out₂} {s₂} x e f =
+          turn-group {env₂} {env₃} {out₂} {s₂} x e f =
               let q = size-found in
               let c = x.counted in
               walk-next
-              (λ k h. let v = before in x.made k (omega arith) ∙ rw (field-group (expand rs k) (take n env₀), pm.1, w.kept))
+              (λ k h. let v = before in x.made k (omega arith) ∙ rw (field-group (expand rs k) env₀, pm, w.kept))
               (omega arith)
-              same
-              (e ∙ el)
+              (e ∙ rw (x.kept, pm, take-append-le (length env) env (own_constraints rs p) (omega arith)) (take-length env))
               f
-            where
-              same : take n env₂ ≡ take n env
-              same =
-                  let q = pm.0 in
-                  let i : n ≤ m = omega arith in
-                  let j : n ≤ length (take n env) = (let h = env-stack in let r = length-take-le n env h in omega arith) in
-                  sym (take-take n m env₂ i) ∙ rw (x.kept, pm.1) (take-append-le n (take n env) (own_constraints rs p) j ∙ take-take n n env (omega arith))
 
       -- ---- any other record
       module _ (k34 : ¬ ((at rs p).kind ≡ 34)) where
         -- what belongs to a group field is lost
-        pub turn-lost : (is_constraint_or_condition (at rs p).kind && after) ≡ true → Walking rs targets sizes d env₀ n out₀ a env out s b (p + 1)
+        pub turn-lost : (is_constraint_or_condition (at rs p).kind && after) ≡ true → Walking rs targets sizes d env₀ out₀ a env out s b (p + 1)
         unfolding inlined_field size_at added_all
         turn-lost g =
             let h : (is_constraint_or_condition (at rs p).kind && after_group rs p) ≡ true = rw w.flag at g in
             let z : size_at targets sizes rs p ≡ 0 = rw (size_at, ne_eqb _ _ k34, h) in
-            walk-next (λ k i. rw (inlined_field, ne_eqb _ _ k34, h)) (omega arith) refl refl refl
+            walk-next (λ k i. rw (inlined_field, ne_eqb _ _ k34, h)) (omega arith) refl refl
 
         module _ (g : (is_constraint_or_condition (at rs p).kind && after) ≡ false) where
           size-one : size_at targets sizes rs p ≡ 1
@@ -338,14 +322,14 @@ module _ {rs : List Record} {targets sizes : List ℕ} {d : ℕ} {env₀ : List 
           call-add = let q = size-one in let h = size-left in let e = w.out-long in let v = y.wide in omega arith
 
           -- what is written
-          pub turn_one : {out₂ : List ℕ} {s₂ : ExpandProgress} → output s₂ out₂ ≡ added (output s out) (inlined_record rs (take n env) (at rs p)) → length out₂ ≡ length out
-              → Walking rs targets sizes d env₀ n out₀ a env out₂ s₂ b (p + 1)
+          pub turn_one : {out₂ : List ℕ} {s₂ : ExpandProgress} → output s₂ out₂ ≡ added (output s out) (inlined_record rs env (at rs p)) → length out₂ ≡ length out
+              → Walking rs targets sizes d env₀ out₀ a env out₂ s₂ b (p + 1)
           unfolding inlined_field added_all added
           turn_one {out₂} {s₂} x e =
               let h : (is_constraint_or_condition (at rs p).kind && after_group rs p) ≡ false = rw w.flag at g in
               let q = size-one in
               let c : s₂.count ≡ s.count + 1 = ap (λ (u : Output). u.progress.count) x in
-              walk-next (λ k i. x ∙ rw (inlined_field, ne_eqb _ _ k34, h, w.kept)) (omega arith) refl refl e
+              walk-next (λ k i. x ∙ rw (inlined_field, ne_eqb _ _ k34, h, w.kept)) (omega arith) refl e
 
 pub added-record : (rs : List Record) (env : List ℕ) (o : Output) {r r' : Record} {x : Inlined} {m : Output} → r ≡ r' → x ≡ inlined_record rs env r → m ≡ added o x → m ≡ added o (inlined_record rs env r')
 added-record rs env o q e k = k ∙ rw (e, q)

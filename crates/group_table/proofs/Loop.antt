@@ -20,25 +20,25 @@ use Rattle.group_table.proofs.Totals.{total-rises, kept-decl}
 pub added-kept : (o : Output) {m : Output} {r r' : Record} → r ≡ r' → m ≡ added o (kept r) → m ≡ added o (kept r')
 added-kept o e h = rw e at h
 
-pub record Writing (rs : List Record) (sizes env₀ out₀ env out : List ℕ) (s : ExpandProgress) (d : ℕ) : Type 0 where
+pub record Writing (rs : List Record) (sizes out₀ env out : List ℕ) (s : ExpandProgress) (d : ℕ) : Type 0 where
   pub made : output s out ≡ added_all (output empty out₀) (each (inlined_at rs) d)
   pub counted : s.count ≡ total_size sizes rs d
-  pub env-long : length env ≡ length env₀
+  pub bare : env ≡ []
   pub out-long : length out ≡ length out₀
 
-pub write-start : (rs : List Record) (sizes env out : List ℕ) → Writing rs sizes env out env out empty 0
+pub write-start : (rs : List Record) (sizes out : List ℕ) → Writing rs sizes out [] out empty 0
 unfolding added_all each total_size
-write-start rs sizes env out = record { made = refl; counted = refl; env-long = refl; out-long = refl }
+write-start rs sizes out = record { made = refl; counted = refl; bare = refl; out-long = refl }
 
-module _ {rs : List Record} {targets sizes env₀ out₀ : List ℕ} (y : RoomForInlined rs targets sizes env₀ out₀) (few : total_size sizes rs (length rs) ≤ 1600) where
-  module _ {env out : List ℕ} {s : ExpandProgress} {d : ℕ} (w : Writing rs sizes env₀ out₀ env out s d) (l : d < length rs) where
-    pub write-other : is_kept (at rs d).kind ≡ false → Writing rs sizes env₀ out₀ env out s (d + 1)
+module _ {rs : List Record} {targets sizes out₀ : List ℕ} (y : RoomForInlined rs targets sizes out₀) (few : total_size sizes rs (length rs) ≤ 1600) where
+  module _ {env out : List ℕ} {s : ExpandProgress} {d : ℕ} (w : Writing rs sizes out₀ env out s d) (l : d < length rs) where
+    pub write-other : is_kept (at rs d).kind ≡ false → Writing rs sizes out₀ env out s (d + 1)
     unfolding inlined_at
     write-other i =
         record {
           made = w.made ∙ rw (each_more (inlined_at rs) d, inlined_at, i, append-nil (each (inlined_at rs) d));
           counted = w.counted ∙ sym (total-other sizes rs d i);
-          env-long = w.env-long;
+          bare = w.bare;
           out-long = w.out-long;
         }
 
@@ -54,7 +54,7 @@ module _ {rs : List Record} {targets sizes env₀ out₀ : List ℕ} (y : RoomFo
         unfolding added
         one_more = ap (λ (u : Output). u.progress.count) p
 
-        pub call-rest : ExpandReady rs targets sizes d env 0 out₁ s₁
+        pub call-rest : ExpandReady rs targets sizes d env out₁ s₁
         call-rest =
             record {
               few = y.few;
@@ -62,16 +62,15 @@ module _ {rs : List Record} {targets sizes env₀ out₀ : List ℕ} (y : RoomFo
               resolved = y.resolved;
               sized = y.sized;
               decl = (l, kept-decl (at rs d).kind i);
-              stack = omega arith;
-              spare = λ e h q. (let a = y.stack in let b = w.env-long in omega arith);
+              spare = λ e h q. rw w.bare (let a = y.few in omega arith);
               room = (let a = left in let b = one_more in omega arith);
               wide = (let a = left in let b = one_more in let c = w.out-long in let e = y.wide in omega arith);
             }
 
-        pub write-next : {env₂ out₂ : List ℕ} {s₂ : ExpandProgress} → Expanded rs sizes d env 0 out₁ s₁ env₂ out₂ s₂ → length env₂ ≡ length env → length out₂ ≡ length out₁
-            → Writing rs sizes env₀ out₀ env₂ out₂ s₂ (d + 1)
+        pub write-next : {env₂ out₂ : List ℕ} {s₂ : ExpandProgress} → Expanded rs sizes d env out₁ s₁ env₂ out₂ s₂ → length out₂ ≡ length out₁
+            → Writing rs sizes out₀ env₂ out₂ s₂ (d + 1)
         unfolding inlined_at added_all
-        write-next x e f =
+        write-next x f =
             let a = x.counted in
             let b = one_more in
             let c = w.counted in
@@ -79,12 +78,12 @@ module _ {rs : List Record} {targets sizes env₀ out₀ : List ℕ} (y : RoomFo
             record {
               made =
                   x.made (length rs) l
-                  ∙ rw (p, w.made, each_more (inlined_at rs) d, inlined_at, i, added-append (output empty out₀) (each (inlined_at rs) d) (kept (at rs d) ∷ expand rs (length rs) [] d));
+                  ∙ rw (p, w.bare, w.made, each_more (inlined_at rs) d, inlined_at, i, added-append (output empty out₀) (each (inlined_at rs) d) (kept (at rs d) ∷ expand rs (length rs) [] d));
               counted = omega arith;
-              env-long = e ∙ w.env-long;
+              bare = x.kept ∙ w.bare;
               out-long = f ∙ o ∙ w.out-long;
             }
 
-  pub write-end : {env out : List ℕ} {s : ExpandProgress} {d : ℕ} → Writing rs sizes env₀ out₀ env out s d → d ≤ length rs → length rs ≤ d → output s out ≡ added_all (output empty out₀) (inlined rs)
+  pub write-end : {env out : List ℕ} {s : ExpandProgress} {d : ℕ} → Writing rs sizes out₀ env out s d → d ≤ length rs → length rs ≤ d → output s out ≡ added_all (output empty out₀) (inlined rs)
   unfolding inlined
   write-end {d = d} w h g = let e : d ≡ length rs = omega arith in w.made ∙ rw e

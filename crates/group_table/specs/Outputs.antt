@@ -1,5 +1,5 @@
 -- Records written one after another, and what the recursion over the groups needs and gives.
-use Rattle.std.specs.Prelude.{ℕ, ◌+◌, ◌*◌, ◌≤◌, ◌<◌, ◌≡◌, List, [], ◌∷◌, true, length, get_or, take, if◌then◌else◌, None, Option, Some}
+use Rattle.std.specs.Prelude.{ℕ, ◌+◌, ◌*◌, ◌≤◌, ◌<◌, ◌≡◌, List, [], ◌∷◌, true, length, get_or, if◌then◌else◌, None, Option, Some}
 use Rattle.rules.specs.Bytes.{written}
 use Rattle.rules.specs.Table.{at, record_bytes, field_key}
 use Rattle.rules.specs.Places.{nearest, holds_at}
@@ -42,28 +42,26 @@ abbrev pub empty : ExpandProgress
 empty = record { count = 0; unfit = None }
 
 -- what the whole table needs, with its targets and sizes known
-pub record RoomForInlined (rs : List Record) (targets sizes env out : List ℕ) : Type 0 where
+pub record RoomForInlined (rs : List Record) (targets sizes out : List ℕ) : Type 0 where
   pub few : length rs ≤ 1600
   pub groups : GroupsFirst rs
   pub resolved : TargetsKnown rs targets (length rs)
   pub sized : Sized rs targets sizes (length rs)
-  pub stack : length rs ≤ length env
   pub wide : 40 * total_size sizes rs (length rs) ≤ length out
 
--- what the declaration at d needs, with n constraints on the stack; the stack has place for those of the records before it, too
-pub record ExpandReady (rs : List Record) (targets sizes : List ℕ) (d : ℕ) (env : List ℕ) (n : ℕ) (out : List ℕ) (a : ExpandProgress) : Type 0 where
+-- what the declaration at d needs, with the constraints env on the stack, which has place for those of the records before it, too
+pub record ExpandReady (rs : List Record) (targets sizes : List ℕ) (d : ℕ) (env : List ℕ) (out : List ℕ) (a : ExpandProgress) : Type 0 where
   pub few : length rs ≤ 1600
   pub groups : GroupsFirst rs
   pub resolved : TargetsKnown rs targets (length rs)
   pub sized : Sized rs targets sizes (length rs)
   pub decl : (d < length rs) × (is_decl (at rs d).kind ≡ true)
-  pub stack : n ≤ length env
-  pub spare : (e : ℕ) → e ≤ length rs → nearest (holds_at rs Decl) e ≡ Some d → n + e ≤ length env
+  pub spare : (e : ℕ) → e ≤ length rs → nearest (holds_at rs Decl) e ≡ Some d → length env + e ≤ 1600
   pub room : a.count + get_or sizes d 0 ≤ 1600
   pub wide : 40 * (a.count + get_or sizes d 0) ≤ length out
 
--- and what it gives: the records behind it, inlined, are written; the stack below n is kept
-pub record Expanded (rs : List Record) (sizes : List ℕ) (d : ℕ) (env : List ℕ) (n : ℕ) (out : List ℕ) (a : ExpandProgress) (env' out' : List ℕ) (z : ExpandProgress) : Type 0 where
-  pub made : (k : ℕ) → d < k → output z out' ≡ added_all (output a out) (expand rs k (take n env) d)
-  pub kept : take n env' ≡ take n env
+-- and what it gives: the records behind it, inlined, are written; the stack is as it was
+pub record Expanded (rs : List Record) (sizes : List ℕ) (d : ℕ) (env : List ℕ) (out : List ℕ) (a : ExpandProgress) (env' out' : List ℕ) (z : ExpandProgress) : Type 0 where
+  pub made : (k : ℕ) → d < k → output z out' ≡ added_all (output a out) (expand rs k env d)
+  pub kept : env' ≡ env
   pub counted : z.count ≡ a.count + get_or sizes d 0

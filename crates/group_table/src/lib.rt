@@ -7,6 +7,7 @@ ghost use Rattle.rules.specs.InlineGroups.{inlined};
 ghost use Rattle.group_sizes.specs.Sizes.{total_size};
 ghost use Rattle.group_table.specs.Outputs.{unfit_after, output, added, added_all, empty, RoomForInlined, ExpandReady, Expanded};
 
+use group_constraints::stack::Stack;
 use group_constraints::{inlined_record, push_constraints};
 use kinds::{is_constraint_or_condition, is_kept};
 use records::record;
@@ -31,84 +32,68 @@ fn add(out: &mut [u8], progress: ExpandProgress, next: Inlined) -> ExpandProgres
     requires { 40 * (progress.count + 1) ≤ length out.old }
     ensures { output result out.new ≡ added (output progress out.old) next }
 {
-    let n = progress.count;
-    let f = progress.unfit;
-    let made = next.made;
-    let unfit = unfit_after(f, next);
-    store::put(out, n, made);
+    store::put(out, progress.count, next.made);
     ExpandProgress {
-        count: n + 1,
-        unfit,
+        count: progress.count + 1,
+        unfit: unfit_after(progress.unfit, next),
     }
 }
 
-// Writes what stands behind the declaration at `decl`, under the constraints at the first `top` places of `env`. The group of a
-// field is the declaration at its place of targets; one of size 0 is passed over.
+// Writes what stands behind the declaration at `decl`, under the constraints on the stack. The group of a field is the
+// declaration at its place of targets; one of size 0 is passed over.
 fn expand(
     table: &[u8],
     targets: &[u16],
     sizes: &[u16],
     decl: usize,
-    env: &mut [u16],
-    top: usize,
+    env: &mut Stack,
     out: &mut [u8],
     progress: ExpandProgress,
 ) -> ExpandProgress
-    requires { ExpandReady (decode table.now) targets.now sizes.now decl env.old top out.old progress }
-    ensures { Expanded (decode table.now) sizes.now decl env.old top out.old progress env.new out.new result }
+    requires { ExpandReady (decode table.now) targets.now sizes.now decl env.old out.old progress }
+    ensures { Expanded (decode table.now) sizes.now decl env.old out.old progress env.new out.new result }
 {
-    let end = table::count(table);
     let mut s = progress;
     let mut after = false;
-    let mut p = decl + 1;
-    while p < end {
-        let q = p;
-        let k = table::kind(table, q);
+    for p in decl + 1..table::count(table) {
+        let k = table::kind(table, p);
         if kinds::is_decl(k) {
             return s;
         }
         let c = is_constraint_or_condition(k);
         let bound = c & after;
         after = (k == kinds::GROUP_FIELD) | bound;
-        p = q + 1;
         if k == kinds::GROUP_FIELD {
-            let g = targets[q] as usize;
+            let g = targets[p] as usize;
             if sizes[g] != 0 {
-                let m = push_constraints(table, p, env, top);
-                s = expand(table, targets, sizes, g, env, m, out, s);
+                let top = env.len();
+                push_constraints(table, p + 1, env);
+                s = expand(table, targets, sizes, g, env, out, s);
+                env.truncate(top);
             }
         } else if !bound {
-            s = add(out, s, inlined_record(table, &env[..top], record(table, q)));
+            s = add(out, s, inlined_record(table, env, record(table, p)));
         }
     }
     s
 }
 
 // Writes the inlined table.
-pub fn write_all(
-    table: &[u8],
-    targets: &[u16],
-    sizes: &[u16],
-    env: &mut [u16],
-    out: &mut [u8],
-) -> ExpandProgress
-    requires room_for_inlined { RoomForInlined (decode table.now) targets.now sizes.now env.old out.old }
+pub fn write_all(table: &[u8], targets: &[u16], sizes: &[u16], out: &mut [u8]) -> ExpandProgress
+    requires room_for_inlined { RoomForInlined (decode table.now) targets.now sizes.now out.old }
     requires table_bound { total_size sizes.now (decode table.now) (length (decode table.now)) ≤ 1600 }
     ensures { output result out.new ≡ added_all (output empty out.old) (inlined (decode table.now)) }
 {
-    let end = table::count(table);
+    let mut env = Stack::new();
     let mut s = ExpandProgress {
         count: 0,
         unfit: None,
     };
-    let mut d = 0;
-    while d < end {
-        let q = d;
-        d = q + 1;
-        let r = record(table, q);
+    for d in 0..table::count(table) {
+        let r = record(table, d);
         if is_kept(r.kind) {
             let first = add(out, s, Inlined { made: r, fit: true });
-            s = expand(table, targets, sizes, q, env, 0, out, first);
+            s = expand(table, targets, sizes, d, &mut env, out, first);
         }
     }
     s

@@ -23,22 +23,20 @@ pub enum InlineError {
 fn by_fit(progress: ExpandProgress) -> Result<usize, InlineError>
     ensures { result ≡ by_fit progress.count progress.unfit }
 {
-    let count = progress.count;
     match progress.unfit {
-        None => Ok(count),
+        None => Ok(progress.count),
         Some(key) => Err(InlineError::Unfit(key)),
     }
 }
 
-// Inlines the groups with arrays of the caller's: targets and sizes by place, and a stack of places of constraints.
+// Inlines the groups with arrays of the caller's: targets and sizes by place.
 fn inline_with(
     table: &[u8],
     targets: &mut [u16],
     sizes: &mut [u16],
-    env: &mut [u16],
     out: &mut [u8],
 ) -> Result<usize, InlineError>
-    requires table_len_bound { (length (decode table.now) ≤ 1600) × (length (decode table.now) ≤ length targets.old) × (length (decode table.now) ≤ length sizes.old) × (length (decode table.now) ≤ length env.old) }
+    requires table_len_bound { (length (decode table.now) ≤ 1600) × (length (decode table.now) ≤ length targets.old) × (length (decode table.now) ≤ length sizes.old) }
     requires groups_first { GroupsFirst (decode table.now) }
     ensures { (result ≡ inlining (length out.old) (inlined (decode table.now))) × (out.new ≡ inlining_bytes out.old (inlined (decode table.now))) }
 {
@@ -51,8 +49,7 @@ fn inline_with(
     if out.len() < RECORD_LENGTH * n {
         return Err(InlineError::BufferShort);
     }
-    let a = group_table::write_all(table, targets, sizes, env, out);
-    by_fit(a)
+    by_fit(group_table::write_all(table, targets, sizes, out))
 }
 
 // Inlines the groups of a table in listed order into a buffer, if the inlined table fits it. Returns how many records it has.
@@ -64,6 +61,5 @@ pub fn inline_groups(table: &[u8], out: &mut [u8]) -> Result<usize, InlineError>
 {
     let mut targets = [0u16; MOST_RECORDS];
     let mut sizes = [0u16; MOST_RECORDS];
-    let mut env = [0u16; MOST_RECORDS];
-    inline_with(table, &mut targets, &mut sizes, &mut env, out)
+    inline_with(table, &mut targets, &mut sizes, out)
 }

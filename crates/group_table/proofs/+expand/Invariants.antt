@@ -1,7 +1,4 @@
 -- `group_table::expand` calls itself on groups that stand before its declaration, whose place is the measure. Assumes nothing.
-use Prim.Native.Nat.{◌-◌}
-use mathlib.Core.Path.{◌≡◌}
-use lib.ListN.{length}
 use Rattle.rules.specs.Table.{decode}
 use Rattle.group_table.proofs.Expands.{Walking}
 use Rattle.group_table.proofs.+expand.Given as goal
@@ -11,7 +8,4 @@ decreases-expand l = l.decl
 
 -- what is written and what is left make the whole
 abbrev pub invariant-loop-p : goal.invariant-loop-p
-invariant-loop-p l = Walking (decode l.table) l.targets l.sizes l.decl l.initial.env l.top l.initial.out l.initial.s l.env l.out l.s l.after l.p × (l.end ≡ length (decode l.table))
-
-abbrev pub decreases-loop-p : goal.decreases-loop-p
-decreases-loop-p l = l.end - l.p
+invariant-loop-p l = Walking (decode l.table) l.targets l.sizes l.decl l.initial.env l.initial.out l.initial.s l.env l.out l.s l.after l.p

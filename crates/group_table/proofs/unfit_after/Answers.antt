@@ -1,5 +1,5 @@
 -- `group_table::unfit_after` meets its contract. Assumes nothing.
-use Rattle.std.proofs.Common.{◌≡◌, ◌∙◌, true, false, not, refl, Option, None, Some, if◌then◌else◌}
+use Rattle.std.proofs.Common.{◌≡◌, true, false, not, refl, Option, None, Some, if◌then◌else◌}
 use Rattle.std.specs.Bool.{then_some}
 use Rattle.std.specs.Option.{option_or}
 use Rattle.rules.specs.Table.{field_key}

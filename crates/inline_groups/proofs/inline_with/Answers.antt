@@ -11,8 +11,8 @@ returns-then-out-n c =
     let e = c.total-n.ensures in
     ret-buffer-short c.requires.groups_first c.fill.ensures c.measure.ensures (rw e at c.if-n-gt-MOST_RECORDS.false) c.args.out.now (rw e at c.if-out-n.true)
 
-pub write_all-a-requires : goal.write_all-a-requires
-write_all-a-requires c =
+pub write_all-requires : goal.write_all-requires
+write_all-requires c =
     let e = c.total-n.ensures in
     record {
       room_for_inlined = record {
@@ -20,7 +20,6 @@ write_all-a-requires c =
         groups = c.requires.groups_first;
         resolved = c.fill.ensures;
         sized = c.measure.ensures;
-        stack = c.requires.table_len_bound.3;
         wide = rw e at c.if-out-n.false;
       };
       table_bound = rw e at c.if-n-gt-MOST_RECORDS.false;
@@ -30,4 +29,4 @@ pub returns : goal.returns
 returns c =
     let e = c.total-n.ensures in
     ret-fits c.requires.groups_first c.fill.ensures c.measure.ensures (rw e at c.if-n-gt-MOST_RECORDS.false) c.args.out.now (rw e at c.if-out-n.false)
-    c.write_all-a.ensures c.by_fit.ensures
+    c.write_all.ensures c.by_fit.ensures
