@@ -32,7 +32,7 @@ impl Stack {
     pub fn len(&self) -> usize
         ensures { result ≡ length self.now }
     {
-        self.len
+        self.len // places
     }
 
     pub(crate) fn as_slice(&self) -> &[u16]
