@@ -2,11 +2,14 @@
 use Prim.Native.Nat.{ℕ, zero, suc, ◌+◌, ◌-◌, ◌*◌, ◌<◌, ◌≤◌}
 use mathlib.Core.Path.{◌≡◌, refl, sym, ap, ◌∙◌}
 use mathlib.Core.List.{List, [], ◌∷◌, ◌++◌}
-use mathlib.Core.Bool.{Bool, true, false, ◌||◌}
+use mathlib.Core.Bool.{Bool, true, false, not, ◌||◌}
 use native.Mathlib.Omega.{arith}
+use native.Mathlib.Numerals.{one-add}
 use lib.Dec.{eqb}
+use mir.Val.{bool_byte}
 use borrow.Author.Tests.{eq-eqb, ne_eqb, eqb-true, eqb-false}
 use lib.ListN.{length, length-append}
+use Rattle.std.specs.List.{filter, take_while, prefix_len, range_with_len}
 use Rattle.rules.specs.Choice.{when}
 use Rattle.rules.specs.Kinds as kind
 use Rattle.rules.specs.Kinds.{is, is_decl, is_named_field}
@@ -46,6 +49,20 @@ entries-few rs x (suc n) q = go (entries-few rs x n (q + 1)) (is_decl (at rs q).
     go r false i true j = rw (entries, i, j) (omega arith)
     go r false i false j = rw (entries, i, j) (omega arith)
 
+-- as many places are kept of those before the next declaration as there are entries
+pub entries-kept : (rs : List Record) (x q n : ℕ)
+    → length (filter (is_condition_on rs x) (take_while (λ p. not (is_decl (at rs p).kind)) (range_with_len q n))) ≡ length (entries rs x q n)
+unfolding entries
+entries-kept rs x q zero = refl
+entries-kept rs x q (suc n) = go (entries-kept rs x (q + 1) n) (is_decl (at rs q).kind) refl (is_condition_on rs x q) refl
+  where
+    go : length (filter (is_condition_on rs x) (take_while (λ p. not (is_decl (at rs p).kind)) (range_with_len (q + 1) n))) ≡ length (entries rs x (q + 1) n)
+        → (b : Bool) → is_decl (at rs q).kind ≡ b → (c : Bool) → is_condition_on rs x q ≡ c
+        → length (filter (is_condition_on rs x) (take_while (λ p. not (is_decl (at rs p).kind)) (range_with_len q (suc n)))) ≡ length (entries rs x q (suc n))
+    go r true i c j = rw (entries, i)
+    go r false i true j = rw (entries, i, one-add, j) (ap suc r)
+    go r false i false j = rw (entries, i, one-add, j) r
+
 pub of-named : (rs : List Record) (r : Record) (a : ℕ) → is_named_field r.kind ≡ true → entries_from rs r.name a ≡ entries_of rs r a
 of-named rs r a i = rw i
 
@@ -66,6 +83,17 @@ of-few rs r a = go (is_named_field r.kind) refl
     go : (b : Bool) → is_named_field r.kind ≡ b → length (entries_of rs r a) ≤ length rs
     go true i = let z = entries-few rs r.name (length rs - a) a in rw i (omega arith)
     go false i = rw i (omega arith)
+
+-- as many places are taken as entries stand one after another
+pub own-taken : (rs : List Record) (q n : ℕ) → prefix_len (λ p. is kind.flag_entry (at rs p)) (range_with_len q n) ≡ length (entries_at rs q n)
+unfolding entries_at
+own-taken rs q zero = refl
+own-taken rs q (suc n) = go (own-taken rs (q + 1) n) (is kind.flag_entry (at rs q)) refl
+  where
+    go : prefix_len (λ p. is kind.flag_entry (at rs p)) (range_with_len (q + 1) n) ≡ length (entries_at rs (q + 1) n)
+        → (b : Bool) → is kind.flag_entry (at rs q) ≡ b → prefix_len (λ p. is kind.flag_entry (at rs p)) (range_with_len q (suc n)) ≡ length (entries_at rs q (suc n))
+    go r true i = rw (entries_at, i, one-add) (ap suc r)
+    go r false i = rw (entries_at, i)
 
 -- the entries that stand one after another from q on
 abbrev pub own_from : List Record → ℕ → List Record
@@ -105,6 +133,14 @@ condition-few rs p = go (is kind.condition (at rs p)) refl
     go : (b : Bool) → is kind.condition (at rs p) ≡ b → length (condition_at rs p) ≤ 1
     go true i = rw (condition_at, i) (omega arith)
     go false i = rw (condition_at, i) (omega arith)
+
+pub condition-count : (rs : List Record) (p : ℕ) → bool_byte (is kind.condition (at rs p)) ≡ length (condition_at rs p)
+unfolding condition_at when
+condition-count rs p = go (is kind.condition (at rs p)) refl
+  where
+    go : (b : Bool) → is kind.condition (at rs p) ≡ b → bool_byte (is kind.condition (at rs p)) ≡ length (condition_at rs p)
+    go true i = rw (condition_at, i)
+    go false i = rw (condition_at, i)
 
 module _ (rs : List Record) (p : ℕ) where
   pub condition-there : (at rs p).kind ≡ 11 → condition_at rs p ≡ at rs p ∷ []

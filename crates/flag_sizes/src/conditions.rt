@@ -7,7 +7,7 @@ ghost use Rattle.rules.specs.DesugarFlags.{members_start, is_condition_on};
 pub fn place_before(place: usize) -> usize
     ensures { result ≡ place - 1 }
 {
-    if place == 0 { 0 } else { place - 1 }
+    place.saturating_sub(1)
 }
 
 // Whether a condition that names `flag` stands at `place`.

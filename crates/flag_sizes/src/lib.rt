@@ -16,17 +16,13 @@ fn mark_conditions(table: &[u8], from: usize, marks: &mut [u16])
     requires { (from ≤ 1600) × (4093 ≤ length marks.old) }
     ensures { ConditionsStamped (decode table.now) marks.new from }
 {
-    let end = table::count(table);
-    let mut p = from;
-    while p < end {
-        let q = p;
-        p = q + 1;
-        let kind = table::kind(table, q);
+    for p in from..table::count(table) {
+        let kind = table::kind(table, p);
         if kinds::is_decl(kind) {
             return;
         }
         if kind == kinds::CONDITION {
-            let h = (table::name(table, q) % DIVISOR) as usize;
+            let h = (table::name(table, p) % DIVISOR) as usize;
             marks[h] = from as u16;
         }
     }
@@ -36,20 +32,10 @@ fn mark_conditions(table: &[u8], from: usize, marks: &mut [u16])
 fn count_entries(table: &[u8], flag: u16, from: usize) -> usize
     ensures { result ≡ length (entries_from (decode table.now) flag from) }
 {
-    let end = table::count(table);
-    let mut n = 0;
-    let mut p = from;
-    while p < end {
-        let q = p;
-        p = q + 1;
-        if kinds::is_decl(table::kind(table, q)) {
-            return n;
-        }
-        if conditions::is_condition_on(table, flag, q) {
-            n += 1;
-        }
-    }
-    n
+    (from..table::count(table))
+        .take_while(|p| !kinds::is_decl(table::kind(table, *p)))
+        .filter(|p| conditions::is_condition_on(table, flag, *p))
+        .count()
 }
 
 // How many entries are made for the record at `place`, whose declaration's members start at `members`.
@@ -72,28 +58,16 @@ fn count_made(table: &[u8], marks: &[u16], place: usize, members: usize) -> usiz
 fn count_own(table: &[u8], from: usize) -> usize
     ensures { result ≡ length (entries_at (decode table.now) from (length (decode table.now) - from)) }
 {
-    let end = table::count(table);
-    let mut n = 0;
-    let mut p = from;
-    while p < end {
-        if table::kind(table, p) != kinds::FLAG_ENTRY {
-            return n;
-        }
-        n += 1;
-        p += 1;
-    }
-    n
+    (from..table::count(table))
+        .take_while(|p| table::kind(table, *p) == kinds::FLAG_ENTRY)
+        .count()
 }
 
 // How many conditions stand behind `place`.
 fn count_condition(table: &[u8], place: usize) -> usize
     ensures { result ≡ length (condition_at (decode table.now) (place + 1)) }
 {
-    if walker::kind_after(table, place) == kinds::CONDITION {
-        1
-    } else {
-        0
-    }
+    usize::from(walker::kind_after(table, place) == kinds::CONDITION)
 }
 
 // How many records the record at `place` becomes, for which so many entries are made.
@@ -130,17 +104,14 @@ pub fn total(table: &[u8], marks: &mut [u16], counts: &mut [u16]) -> usize
     requires { (length (decode table.now) ≤ 1600) × (4093 ≤ length marks.old) × (1600 ≤ length counts.old) }
     ensures { (result ≡ length (desugared (decode table.now))) × Counted (decode table.now) counts.new (length (decode table.now)) }
 {
-    let end = table::count(table);
     let mut n = 0;
     let mut a = 0;
-    let mut p = 0;
     mark_conditions(table, 0, marks);
-    while p < end {
+    for p in 0..table::count(table) {
         let made = count_made(table, marks, p, a);
         counts[p] = made as u16;
         n += size_at(table, p, made);
         a = mark_next(table, p, a, marks);
-        p += 1;
     }
     n
 }

@@ -1,40 +1,23 @@
--- `flag_sizes::count_entries` meets its contract. Assumes nothing.
-use borrow.Author.Rules.{rules}
-use mathlib.Core.Path.{◌≡◌, sym, ap, ◌∙◌}
-use mathlib.Core.Bool.{false}
-use Prim.Native.Nat.{◌<◌, ◌≤◌}
+-- The places that the chain keeps are those of the conditions that name the flag.
+use Rattle.std.proofs.Common.{rules, tests, refl, ap, ◌∙◌}
+use Rattle.std.proofs.lemmas.Iterator.{YieldsList-from_range}
+use Rattle.std.proofs.lemmas.Iterator.Consumers.{count_from_yields_List, YieldsList-at, YieldsList-from_filter}
+use Rattle.std.proofs.lemmas.Iterator.Search.{YieldsList-from_take_while}
+use Prim.Native.Nat.{◌-◌}
+use mathlib.Core.Bool.{not}
 use lib.ListN.{length}
 use Rattle.rules.specs.Kinds.{is_decl}
 use Rattle.rules.specs.Table.{decode, at}
-use native.Mathlib.Omega.{arith}
-use Rattle.flag_sizes.proofs.Laws.{entries-decl, entries-end, entries-hit, entries-miss}
+use Rattle.rules.specs.DesugarFlags.{is_condition_on}
+use Rattle.flag_sizes.proofs.Laws.{entries-kept}
 use Rattle.flag_sizes.proofs.count_entries.Goals as goal
-
-pub loop-p-init : goal.loop-p-init
-loop-p-init c = (search rules, c.count-end.ensures, search rules)
-
-pub returns-then-is_decl : goal.returns-then-is_decl
-returns-then-is_decl c =
-    let rs = decode c.args.table.now in
-    let below : c.loop-p.p < length rs = omega (arith, c.loop-p.invariant.1, c.loop-p-test.true) in
-    omega (arith, c.loop-p.invariant.0, ap length (entries-decl rs c.args.flag c.loop-p.p below (rw (← c.kind.ensures) (sym c.is_decl.ensures ∙ c.if-is_decl.true))))
-
-pub loop-p-preserved-then-is_condition_on : goal.loop-p-preserved-then-is_condition_on
-loop-p-preserved-then-is_condition_on c =
-    let rs = decode c.args.table.now in
-    let below : c.loop-p.p < length rs = omega (arith, c.loop-p.invariant.1, c.loop-p-test.true) in
-    let inside : is_decl (at rs c.loop-p.p).kind ≡ false = rw (← c.kind.ensures) (sym c.is_decl.ensures ∙ c.if-is_decl.false) in
-    (omega (arith, c.loop-p.invariant.0, ap length (entries-hit rs c.args.flag c.loop-p.p below inside (sym c.is_condition_on.ensures ∙ c.if-is_condition_on.true))), c.loop-p.invariant.1, omega (arith, c.loop-p.invariant.2))
-
-pub loop-p-preserved : goal.loop-p-preserved
-loop-p-preserved c =
-    let rs = decode c.args.table.now in
-    let below : c.loop-p.p < length rs = omega (arith, c.loop-p.invariant.1, c.loop-p-test.true) in
-    let inside : is_decl (at rs c.loop-p.p).kind ≡ false = rw (← c.kind.ensures) (sym c.is_decl.ensures ∙ c.if-is_decl.false) in
-    (omega (arith, c.loop-p.invariant.0, ap length (entries-miss rs c.args.flag c.loop-p.p below inside (sym c.is_condition_on.ensures ∙ c.if-is_condition_on.false))), c.loop-p.invariant.1, omega (arith, c.loop-p.invariant.2))
 
 pub returns : goal.returns
 returns c =
     let rs = decode c.args.table.now in
-    let past : length rs ≤ c.loop-p.p = omega (arith, c.loop-p.invariant.1, c.loop-p-test.false) in
-    omega (arith, c.loop-p.invariant.0, ap length (entries-end rs c.args.flag c.loop-p.p past))
+    let n = length rs - c.args.from in
+    count_from_yields_List c.filter.result _ c.count-2.ensures.ran
+    (YieldsList-from_filter _ (is_condition_on rs c.args.flag)
+    (YieldsList-at c.filter.ensures.source (YieldsList-from_take_while _ (λ p. not (is_decl (at rs p).kind)) (YieldsList-at c.take_while.ensures.source (YieldsList-from_range c.args.from c.count.result n refl (ap (λ e. e - c.args.from) c.count.ensures))) c.take_while.ensures.closure c.take_while.ensures.done (λ x b q k. search (rules, tests))))
+    c.filter.ensures.closure (λ x b q k. search (rules, tests)))
+    ∙ entries-kept rs c.args.flag c.args.from n

@@ -1,30 +1,22 @@
--- `flag_sizes::count_own` meets its contract. Assumes nothing.
-use borrow.Author.Rules.{rules}
-use mathlib.Core.Path.{sym, ap, ◌∙◌}
-use Prim.Native.Nat.{◌<◌, ◌≤◌}
+-- The places that the chain takes are those of the entries that stand one after another.
+use Rattle.std.proofs.Common.{rules, tests, refl, ap, ◌∙◌}
+use Rattle.std.proofs.lemmas.Iterator.{YieldsList-from_range}
+use Rattle.std.proofs.lemmas.Iterator.Consumers.{count_from_yields_List, YieldsList-at}
+use Rattle.std.proofs.lemmas.Iterator.Search.{YieldsList-from_take_while}
+use Rattle.std.proofs.lemmas.List.Folds.{length-prefix_len}
+use Prim.Native.Nat.{◌-◌}
 use lib.ListN.{length}
-use Rattle.rules.specs.Table.{decode}
-use native.Mathlib.Omega.{arith}
-use Rattle.flag_sizes.proofs.Laws.{own-end, own-other, own-hit}
+use Rattle.std.specs.List.{range_with_len}
+use Rattle.rules.specs.Kinds as kind
+use Rattle.rules.specs.Kinds.{is}
+use Rattle.rules.specs.Table.{decode, at}
+use Rattle.flag_sizes.proofs.Laws.{own-taken}
 use Rattle.flag_sizes.proofs.count_own.Goals as goal
-
-pub loop-p-init : goal.loop-p-init
-loop-p-init c = (search rules, c.count-end.ensures, search rules)
-
-pub returns-then-kind-ne-FLAG_ENTRY : goal.returns-then-kind-ne-FLAG_ENTRY
-returns-then-kind-ne-FLAG_ENTRY c =
-    let rs = decode c.args.table.now in
-    let below : c.loop-p.p < length rs = omega (arith, c.loop-p.invariant.1, c.loop-p-test.true) in
-    omega (arith, c.loop-p.invariant.0, ap length (own-other rs c.loop-p.p below (rw c.kind.ensures at c.if-kind-ne-FLAG_ENTRY.true)))
-
-pub loop-p-preserved : goal.loop-p-preserved
-loop-p-preserved c =
-    let rs = decode c.args.table.now in
-    let below : c.loop-p.p < length rs = omega (arith, c.loop-p.invariant.1, c.loop-p-test.true) in
-    (omega (arith, c.loop-p.invariant.0, ap length (own-hit rs c.loop-p.p below (sym c.kind.ensures ∙ c.if-kind-ne-FLAG_ENTRY.false))), c.loop-p.invariant.1, search rules)
 
 pub returns : goal.returns
 returns c =
     let rs = decode c.args.table.now in
-    let past : length rs ≤ c.loop-p.p = omega (arith, c.loop-p.invariant.1, c.loop-p-test.false) in
-    omega (arith, c.loop-p.invariant.0, ap length (own-end rs c.loop-p.p past))
+    let n = length rs - c.args.from in
+    count_from_yields_List c.take_while.result _ c.count-2.ensures.ran
+    (YieldsList-from_take_while _ (λ p. is kind.flag_entry (at rs p)) (YieldsList-at c.take_while.ensures.source (YieldsList-from_range c.args.from c.count.result n refl (ap (λ e. e - c.args.from) c.count.ensures))) c.take_while.ensures.closure c.take_while.ensures.done (λ x b q k. search (rules, tests)))
+    ∙ length-prefix_len (λ p. is kind.flag_entry (at rs p)) (range_with_len c.args.from n) ∙ own-taken rs c.args.from n

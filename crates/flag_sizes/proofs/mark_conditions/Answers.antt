@@ -1,32 +1,25 @@
--- `flag_sizes::mark_conditions` meets its contract. Assumes nothing.
-use borrow.Author.Rules.{rules}
-use mathlib.Core.Path.{refl, sym, ◌∙◌}
+-- Each condition leaves its stamp, and no other record needs one.
+use mathlib.Core.Path.{◌≡◌, sym, ◌∙◌}
+use mathlib.Core.Bool.{false}
 use native.Mathlib.Omega.{arith}
-use Rattle.flag_sizes.proofs.Marks.{stamping-start, stamping-decl, stamping-end, stamping-other, stamping-one}
+use Rattle.rules.specs.Kinds.{is_decl}
+use Rattle.rules.specs.Table.{decode, at}
+use Rattle.flag_sizes.proofs.Marks.{stamping-decl, stamping-end, stamping-other, stamping-one}
 use Rattle.flag_sizes.proofs.mark_conditions.Goals as goal
-
-pub loop-p-init : goal.loop-p-init
-loop-p-init c = (stamping-start _ _ _ c.requires.1, c.count-end.ensures, refl)
+use Rattle.flag_sizes.proofs.mark_conditions.Goals.{then-kind-eq-CONDITION, else-kind-eq-CONDITION}
 
 pub returns-then-is_decl : goal.returns-then-is_decl
 returns-then-is_decl c =
-    let v = c.loop-p.invariant in
-    stamping-decl v.0 (omega (arith, v.1, c.loop-p-test.true)) (rw (← c.kind-kind.ensures) (sym c.is_decl.ensures ∙ c.if-is_decl.true))
-
-pub bounds-marks-h : goal.bounds-marks-h
-bounds-marks-h c = omega (arith, c.loop-p.invariant.0.long)
-
-pub loop-p-preserved-then-kind-eq-CONDITION : goal.loop-p-preserved-then-kind-eq-CONDITION
-loop-p-preserved-then-kind-eq-CONDITION c =
-    let v = c.loop-p.invariant in
-    let one = stamping-one v.0 (omega (arith, v.1, c.loop-p-test.true)) (rw (← c.kind-kind.ensures) (sym c.is_decl.ensures ∙ c.if-is_decl.false)) c.name.ensures in
-    (one, v.1, search rules)
+    stamping-decl c.loop-p.invariant (omega (arith, c.count-p-end.ensures)) (rw (← c.kind-kind.ensures) (sym c.is_decl.ensures ∙ c.if-is_decl.true))
 
 pub loop-p-preserved : goal.loop-p-preserved
 loop-p-preserved c =
-    let v = c.loop-p.invariant in
-    let kind = rw c.kind-kind.ensures at c.if-kind-eq-CONDITION.false in
-    (stamping-other v.0 (omega (arith, v.1, c.loop-p-test.true)) (rw (← c.kind-kind.ensures) (sym c.is_decl.ensures ∙ c.if-is_decl.false)) kind, v.1, v.2)
+    let inside : is_decl (at (decode c.args.table.now) c.loop-p.p).kind ≡ false = rw (← c.kind-kind.ensures) (sym c.is_decl.ensures ∙ c.if-is_decl.false) in
+    elim c.if-kind-eq-CONDITION.branch [
+      | then-kind-eq-CONDITION w ↦ rw w.marks-is (stamping-one c.loop-p.invariant (omega (arith, c.count-p-end.ensures)) inside w.name.ensures)
+      | else-kind-eq-CONDITION w ↦
+          rw w.marks-is (stamping-other c.loop-p.invariant (omega (arith, c.count-p-end.ensures)) inside (rw c.kind-kind.ensures at w.if-kind-eq-CONDITION.false))
+    ]
 
 pub returns : goal.returns
-returns c = let v = c.loop-p.invariant in stamping-end v.0 (omega (arith, v.1, c.loop-p-test.false))
+returns c = stamping-end c.loop-p.invariant (omega (arith, c.count-p-end.ensures))
