@@ -1,13 +1,16 @@
 -- Laws of the replies. Assumes nothing.
 use Rattle.std.proofs.Common.{None, Option, Some, ℕ}
-use Prim.Native.Nat.{ℕ, ◌-◌, ◌*◌, ◌%◌, ◌<◌, ◌≤◌}
-use mathlib.Core.Path.{◌≡◌, ap, ◌∙◌}
+use Rattle.std.proofs.lemmas.Nat.{and_mask}
+use Rattle.std.specs.Int.Bits.{bit_and}
+use Prim.Native.Nat.{ℕ, zero, suc, ◌+◌, ◌-◌, ◌*◌, ◌<◌, ◌≤◌}
+use mathlib.Core.Path.{◌≡◌, refl}
 use mathlib.Core.List.{List}
-use mathlib.Core.Bool.{Bool, ◌&&◌, not}
+use mathlib.Core.Bool.{Bool, true, false, ◌&&◌, not}
 use native.Mathlib.Omega.{arith}
 use lib.Dec.{eqb}
 use borrow.Author.Tests.{lt-ltb, le-ltb}
 use lib.ListN.{length}
+use Rattle.std.specs.List.{find, range_with_len}
 use Rattle.rules.specs.Bytes.{written}
 use Rattle.rules.specs.Kinds.{is_named_field}
 use Rattle.rules.specs.Table.{at, encode, field_key}
@@ -20,8 +23,8 @@ use Rattle.flag_table.specs.RecordsAppended.{RoomForRecords}
 
 -- what the code reads of a condition and of its field
 module _ (rs : List Record) (q : ℕ) {c : Record} (e : c ≡ at rs q) where
-  pub loose-as : {k : ℕ} {n : Bool} → (at rs q).kind ≡ 11 → k ≡ (at rs (q - 1)).kind → n ≡ is_named_field k → not (n && eqb (c.marks % 2) 1) ≡ loose_at rs q
-  loose-as h f g = rw (h, g, f, e)
+  pub loose-as : {k : ℕ} {n : Bool} → (at rs q).kind ≡ 11 → k ≡ (at rs (q - 1)).kind → n ≡ is_named_field k → not (n && eqb (bit_and c.marks 1) 1) ≡ loose_at rs q
+  loose-as h f g = rw (and_mask c.marks 1, h, g, f, e)
 
 -- ---- the replies
 
@@ -45,9 +48,19 @@ module _ (dr : List Record) (t : List ℕ) {n : ℕ} (e : n ≡ length dr) where
     pub room-all : 40 * n ≤ length t → RoomForRecords t 0 dr
     room-all g = record { few = omega arith; fits = omega arith }
 
-pub loose-is : (rs : List Record) (n : ℕ) {f : Option ℕ} → n ≡ length rs → f ≡ first (loose_at rs) 0 (n - 0) → f ≡ first_loose rs
+-- what `find` finds in a range is the first place
+find-first : (f : ℕ → Bool) (p n : ℕ) → find f (range_with_len p n) ≡ first f p n
+unfolding first
+find-first f p zero = refl
+find-first f p (suc n) = go (find-first f (p + 1) n) (f p) refl
+  where
+    go : find f (range_with_len (p + 1) n) ≡ first f (p + 1) n → (b : Bool) → f p ≡ b → find f (range_with_len p (suc n)) ≡ first f p (suc n)
+    go r true e = rw (first, e)
+    go r false e = rw (first, e) r
+
+pub find-loose : (rs : List Record) → find (loose_at rs) (range_with_len 0 (length rs)) ≡ first_loose rs
 unfolding first_loose
-loose-is rs n e h = h ∙ ap (first (loose_at rs) 0) (omega arith)
+find-loose rs = find-first (loose_at rs) 0 (length rs)
 
 module _ (rs : List Record) (t : List ℕ) {found : Option ℕ} (e : found ≡ first_loose rs) where
   pub reply-loose : {q : ℕ} {r : Record} → found ≡ Some q → r ≡ at rs (q - 1) → (f : List ℕ) → answered (Loose (field_key r)) t f ≡ flagged rs t f

@@ -21,7 +21,7 @@ fn loose_at(table: &[u8], place: usize) -> bool
     let condition = records::at(table, place);
     let field = table::kind(table, flag_sizes::conditions::place_before(place));
     let named = kinds::is_named_field(field);
-    let valued = condition.marks % 2 == 1;
+    let valued = condition.marks & 1 == 1;
     !(named & valued)
 }
 
@@ -29,16 +29,7 @@ fn loose_at(table: &[u8], place: usize) -> bool
 fn find_loose(table: &[u8]) -> Option<usize>
     ensures { result ≡ first_loose (decode table.now) }
 {
-    let end = table::count(table);
-    let mut p = 0;
-    while p < end {
-        let q = p;
-        if loose_at(table, q) {
-            return Some(q);
-        }
-        p = q + 1;
-    }
-    None
+    (0..table::count(table)).find(|p| loose_at(table, *p))
 }
 
 // The table with flags, which has `count` records, if it is not too long for the reply or for the buffer.

@@ -1,20 +1,18 @@
--- `desugar_flags::find_loose` meets its contract. Assumes nothing.
-use mathlib.Core.Path.{refl, sym, ◌∙◌}
-use Rattle.table.proofs.Laws.{up-hit, up-miss, up-end}
-use Rattle.desugar_flags.proofs.Laws.{loose-is}
+-- The first place that the chain finds is the first loose one.
+use Rattle.std.proofs.Common.{rules, tests, refl, sym, ◌∙◌}
+use Rattle.std.proofs.lemmas.Iterator.{YieldsList-from_range}
+use Rattle.std.proofs.lemmas.Iterator.Search.{find_from_yields_List}
+use Rattle.std.proofs.lemmas.Iterator.Adapters.{option_map_id}
+use native.Mathlib.Omega.{arith}
+use lib.ListN.{length}
+use Rattle.rules.specs.Table.{decode}
+use Rattle.rules.specs.DesugarFlags.{loose_at}
+use Rattle.desugar_flags.proofs.Laws.{find-loose}
 use Rattle.desugar_flags.proofs.find_loose.Goals as goal
-
-pub loop-p-init : goal.loop-p-init
-loop-p-init c = (refl, c.count-end.ensures)
-
-pub returns-then-loose_at : goal.returns-then-loose_at
-returns-then-loose_at c =
-    loose-is _ _ c.loop-p.invariant.1 (up-hit _ _ _ c.loop-p.p c.loop-p.invariant.0 c.loop-p-test.true (sym c.loose_at.ensures ∙ c.if-loose_at.true))
-
-pub loop-p-preserved : goal.loop-p-preserved
-loop-p-preserved c =
-    (up-miss _ _ _ c.loop-p.p c.loop-p.invariant.0 c.loop-p-test.true (sym c.loose_at.ensures ∙ c.if-loose_at.false), c.loop-p.invariant.1)
 
 pub returns : goal.returns
 returns c =
-    loose-is _ _ c.loop-p.invariant.1 (up-end _ _ _ c.loop-p.p c.loop-p.invariant.0 c.loop-p-test.false)
+    let rs = decode c.args.table.now in
+    sym (option_map_id c.find.result)
+    ∙ find_from_yields_List (loose_at rs) _ _ c.find.result c.find.ensures.ran (YieldsList-from_range 0 c.count.result (length rs) refl (omega arith)) (λ x b q k. search (rules, tests))
+    ∙ find-loose rs
