@@ -63,17 +63,13 @@ fn write_entries(table: &[u8], flag: u16, from: usize, out: &mut [u8], count: us
     requires { RoomForRecords out.old count (entries_from (decode table.now) flag from) }
     ensures { RecordsAppended out.old count (entries_from (decode table.now) flag from) out.new result }
 {
-    let end = table::count(table);
     let mut n = count;
-    let mut p = from;
-    while p < end {
-        let q = p;
-        p = q + 1;
-        if kinds::is_decl(table::kind(table, q)) {
+    for p in from..table::count(table) {
+        if kinds::is_decl(table::kind(table, p)) {
             return n;
         }
-        if flag_sizes::conditions::is_condition_on(table, flag, q) {
-            n = append(out, n, entry_of(table, q));
+        if flag_sizes::conditions::is_condition_on(table, flag, p) {
+            n = append(out, n, entry_of(table, p));
         }
     }
     n
@@ -84,16 +80,13 @@ fn write_own(table: &[u8], from: usize, out: &mut [u8], count: usize) -> usize
     requires { RoomForRecords out.old count (entries_at (decode table.now) from (length (decode table.now) - from)) }
     ensures { RecordsAppended out.old count (entries_at (decode table.now) from (length (decode table.now) - from)) out.new result }
 {
-    let end = table::count(table);
     let mut n = count;
-    let mut p = from;
-    while p < end {
+    for p in from..table::count(table) {
         let r = records::at(table, p);
         if r.kind != kinds::FLAG_ENTRY {
             return n;
         }
         n = append(out, n, r);
-        p += 1;
     }
     n
 }
@@ -163,13 +156,10 @@ pub fn write_all(table: &[u8], counts: &[u16], out: &mut [u8])
     requires { (length (decode table.now) ≤ 1600) × Counted (decode table.now) counts.now (length (decode table.now)) × RoomForRecords out.old 0 (desugared (decode table.now)) }
     ensures { out.new ≡ written out.old 0 (encode (desugared (decode table.now))) }
 {
-    let end = table::count(table);
     let mut n = 0;
     let mut a = 0;
-    let mut p = 0;
-    while p < end {
+    for p in 0..table::count(table) {
         n = write_at(table, counts, p, a, out, n);
         a = flag_sizes::conditions::next_start(table, p, a);
-        p += 1;
     }
 }

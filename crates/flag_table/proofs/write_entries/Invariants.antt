@@ -1,7 +1,4 @@
--- `flag_table::write_entries` meets its contract. Assumes nothing.
-use mathlib.Core.Path.{◌≡◌}
-use Prim.Native.Nat.{◌-◌}
-use lib.ListN.{length}
+-- The entries of the conditions that the loop has passed are written.
 use Rattle.rules.specs.Table.{decode}
 use Rattle.rules.specs.DesugarFlags.{entries_from}
 use Rattle.flag_table.proofs.Writing.{Progress}
@@ -9,7 +6,4 @@ use Rattle.flag_table.proofs.write_entries.Given as goal
 
 abbrev pub invariant-loop-p : goal.invariant-loop-p
 invariant-loop-p l =
-    Progress (entries_from (decode l.table) l.flag l.from) (entries_from (decode l.table) l.flag l.p) l.initial.out l.count l.out l.n × (l.end ≡ length (decode l.table))
-
-abbrev pub decreases-loop-p : goal.decreases-loop-p
-decreases-loop-p l = l.end - l.p
+    Progress (entries_from (decode l.table) l.flag l.from) (entries_from (decode l.table) l.flag l.p) l.initial.out l.count l.out l.n

@@ -1,15 +1,8 @@
--- `flag_table::write_own` meets its contract. Assumes nothing.
-use mathlib.Core.Path.{◌≡◌}
-use Prim.Native.Nat.{◌-◌}
-use lib.ListN.{length}
+-- The entries that the loop has passed are written.
 use Rattle.rules.specs.Table.{decode}
-use Rattle.rules.specs.DesugarFlags.{entries_at}
+use Rattle.flag_sizes.proofs.Laws.{own_from}
 use Rattle.flag_table.proofs.Writing.{Progress}
 use Rattle.flag_table.proofs.write_own.Given as goal
 
 abbrev pub invariant-loop-p : goal.invariant-loop-p
-invariant-loop-p l =
-    Progress (entries_at (decode l.table) l.from (length (decode l.table) - l.from)) (entries_at (decode l.table) l.p (length (decode l.table) - l.p)) l.initial.out l.count l.out l.n × (l.end ≡ length (decode l.table))
-
-abbrev pub decreases-loop-p : goal.decreases-loop-p
-decreases-loop-p l = l.end - l.p
+invariant-loop-p l = Progress (own_from (decode l.table) l.from) (own_from (decode l.table) l.p) l.initial.out l.count l.out l.n
