@@ -1,15 +1,13 @@
 -- Laws of the entries, of the records that a place becomes, and of the whole table. Assumes nothing.
 use Prim.Native.Nat.{ℕ, zero, suc, ◌+◌, ◌-◌, ◌*◌, ◌<◌, ◌≤◌}
 use mathlib.Core.Path.{◌≡◌, refl, sym, ap, ◌∙◌}
-use mathlib.Core.List.{List, [], ◌∷◌, ◌++◌}
-use mathlib.Core.Bool.{Bool, true, false, not, ◌||◌}
+use mathlib.Core.List.{List, [], ◌∷◌, ◌++◌, map}
+use mathlib.Core.Bool.{Bool, true, false, ◌||◌}
 use native.Mathlib.Omega.{arith}
-use native.Mathlib.Numerals.{one-add}
 use lib.Dec.{eqb}
 use mir.Val.{bool_byte}
 use borrow.Author.Tests.{eq-eqb, ne_eqb, eqb-true, eqb-false}
-use lib.ListN.{length, length-append}
-use Rattle.std.specs.List.{filter, take_while, prefix_len, range_with_len}
+use lib.ListN.{length, length-append, length-map}
 use Rattle.rules.specs.Choice.{when}
 use Rattle.rules.specs.Kinds as kind
 use Rattle.rules.specs.Kinds.{is, is_decl, is_named_field}
@@ -17,6 +15,7 @@ use Rattle.rules.specs.Table.{at}
 use Rattle.rules.specs.Places.{each}
 use Rattle.rules.specs.DesugarFlags.{members_start, entry_of, is_condition_on, entries, entries_from, entries_of, flag_of, condition_at, entries_at, own_entries, with_entries, desugared_at, desugared}
 use Rattle.rules.specs.declared.Record.{Record}
+use Rattle.flag_sizes.specs.Places.{naming, naming_from, standing, standing_from}
 use Rattle.table.proofs.Laws.{left-suc, left-none, each_more, each-few}
 
 -- ---- entries
@@ -49,19 +48,49 @@ entries-few rs x (suc n) q = go (entries-few rs x n (q + 1)) (is_decl (at rs q).
     go r false i true j = rw (entries, i, j) (omega arith)
     go r false i false j = rw (entries, i, j) (omega arith)
 
--- as many places are kept of those before the next declaration as there are entries
-pub entries-kept : (rs : List Record) (x q n : ℕ)
-    → length (filter (is_condition_on rs x) (take_while (λ p. not (is_decl (at rs p).kind)) (range_with_len q n))) ≡ length (entries rs x q n)
-unfolding entries
-entries-kept rs x q zero = refl
-entries-kept rs x q (suc n) = go (entries-kept rs x (q + 1) n) (is_decl (at rs q).kind) refl (is_condition_on rs x q) refl
+-- where they come from
+module _ (rs : List Record) (x q : ℕ) where
+  pub naming-decl : is_decl (at rs q).kind ≡ true → [] ≡ naming_from rs x q
+  unfolding naming
+  naming-decl i = go (length rs - q)
+    where
+      go : (n : ℕ) → [] ≡ naming rs x q n
+      go zero = refl
+      go (suc n) = rw (naming, i)
+
+  pub naming-end : length rs ≤ q → [] ≡ naming_from rs x q
+  unfolding naming
+  naming-end l = rw (left-none (length rs) q l)
+
+  module _ (l : q < length rs) (o : is_decl (at rs q).kind ≡ false) where
+    pub naming-hit : is_condition_on rs x q ≡ true → naming_from rs x q ≡ q ∷ naming_from rs x (q + 1)
+    unfolding naming
+    naming-hit i = rw (left-suc (length rs) q l, naming, o, i)
+
+    pub naming-miss : is_condition_on rs x q ≡ false → naming_from rs x q ≡ naming_from rs x (q + 1)
+    unfolding naming
+    naming-miss i = rw (left-suc (length rs) q l, naming, o, i)
+
+naming-entries : (rs : List Record) (x q n : ℕ) → map (entry_of rs) (naming rs x q n) ≡ entries rs x q n
+unfolding naming entries
+naming-entries rs x q zero = refl
+naming-entries rs x q (suc n) = go (naming-entries rs x (q + 1) n) (is_decl (at rs q).kind) refl (is_condition_on rs x q) refl
   where
-    go : length (filter (is_condition_on rs x) (take_while (λ p. not (is_decl (at rs p).kind)) (range_with_len (q + 1) n))) ≡ length (entries rs x (q + 1) n)
-        → (b : Bool) → is_decl (at rs q).kind ≡ b → (c : Bool) → is_condition_on rs x q ≡ c
-        → length (filter (is_condition_on rs x) (take_while (λ p. not (is_decl (at rs p).kind)) (range_with_len q (suc n)))) ≡ length (entries rs x q (suc n))
-    go r true i c j = rw (entries, i)
-    go r false i true j = rw (entries, i, one-add, j) (ap suc r)
-    go r false i false j = rw (entries, i, one-add, j) r
+    go : map (entry_of rs) (naming rs x (q + 1) n) ≡ entries rs x (q + 1) n → (b : Bool) → is_decl (at rs q).kind ≡ b
+        → (c : Bool) → is_condition_on rs x q ≡ c → map (entry_of rs) (naming rs x q (suc n)) ≡ entries rs x q (suc n)
+    go r true i c j = rw (naming, entries, i)
+    go r false i true j = rw (naming, entries, i, j) (ap {B = List Record} (λ l. entry_of rs q ∷ l) r)
+    go r false i false j = rw (naming, entries, i, j) r
+
+pub naming-few : (rs : List Record) (x q : ℕ) → length (naming_from rs x q) ≤ length rs
+naming-few rs x q =
+    let z = entries-few rs x (length rs - q) q in
+    let e = ap length (naming-entries rs x q (length rs - q)) in
+    let m = length-map (naming_from rs x q) (entry_of rs) in
+    omega arith
+
+pub naming-made : (rs : List Record) (x q : ℕ) → map (entry_of rs) (naming_from rs x q) ≡ entries_from rs x q
+naming-made rs x q = naming-entries rs x q (length rs - q)
 
 pub of-named : (rs : List Record) (r : Record) (a : ℕ) → is_named_field r.kind ≡ true → entries_from rs r.name a ≡ entries_of rs r a
 of-named rs r a i = rw i
@@ -83,17 +112,6 @@ of-few rs r a = go (is_named_field r.kind) refl
     go : (b : Bool) → is_named_field r.kind ≡ b → length (entries_of rs r a) ≤ length rs
     go true i = let z = entries-few rs r.name (length rs - a) a in rw i (omega arith)
     go false i = rw i (omega arith)
-
--- as many places are taken as entries stand one after another
-pub own-taken : (rs : List Record) (q n : ℕ) → prefix_len (λ p. is kind.flag_entry (at rs p)) (range_with_len q n) ≡ length (entries_at rs q n)
-unfolding entries_at
-own-taken rs q zero = refl
-own-taken rs q (suc n) = go (own-taken rs (q + 1) n) (is kind.flag_entry (at rs q)) refl
-  where
-    go : prefix_len (λ p. is kind.flag_entry (at rs p)) (range_with_len (q + 1) n) ≡ length (entries_at rs (q + 1) n)
-        → (b : Bool) → is kind.flag_entry (at rs q) ≡ b → prefix_len (λ p. is kind.flag_entry (at rs p)) (range_with_len q (suc n)) ≡ length (entries_at rs q (suc n))
-    go r true i = rw (entries_at, i, one-add) (ap suc r)
-    go r false i = rw (entries_at, i)
 
 -- the entries that stand one after another from q on
 abbrev pub own_from : List Record → ℕ → List Record
@@ -123,6 +141,43 @@ own-few rs (suc n) q = go (own-few rs n (q + 1)) (is kind.flag_entry (at rs q)) 
 
 pub own-all-few : (rs : List Record) (q : ℕ) → length (own_from rs q) ≤ length rs
 own-all-few rs q = let z = own-few rs (length rs - q) q in omega arith
+
+module _ (rs : List Record) (q : ℕ) where
+  pub standing-none : ¬ ((at rs q).kind ≡ 12) → [] ≡ standing_from rs q
+  unfolding standing
+  standing-none k = go (length rs - q)
+    where
+      go : (n : ℕ) → [] ≡ standing rs q n
+      go zero = refl
+      go (suc n) = rw (standing, ne_eqb _ _ k)
+
+  pub standing-end : length rs ≤ q → [] ≡ standing_from rs q
+  unfolding standing
+  standing-end l = rw (left-none (length rs) q l)
+
+  pub standing-hit : q < length rs → (at rs q).kind ≡ 12 → standing_from rs q ≡ q ∷ standing_from rs (q + 1)
+  unfolding standing
+  standing-hit l k = rw (left-suc (length rs) q l, standing, eq-eqb _ _ k)
+
+standing-entries : (rs : List Record) (q n : ℕ) → map (at rs) (standing rs q n) ≡ entries_at rs q n
+unfolding standing entries_at
+standing-entries rs q zero = refl
+standing-entries rs q (suc n) = go (standing-entries rs (q + 1) n) (is kind.flag_entry (at rs q)) refl
+  where
+    go : map (at rs) (standing rs (q + 1) n) ≡ entries_at rs (q + 1) n → (b : Bool) → is kind.flag_entry (at rs q) ≡ b
+        → map (at rs) (standing rs q (suc n)) ≡ entries_at rs q (suc n)
+    go r true i = rw (standing, entries_at, i) (ap {B = List Record} (λ l. at rs q ∷ l) r)
+    go r false i = rw (standing, entries_at, i)
+
+pub standing-few : (rs : List Record) (q : ℕ) → length (standing_from rs q) ≤ length rs
+standing-few rs q =
+    let z = own-few rs (length rs - q) q in
+    let e = ap length (standing-entries rs q (length rs - q)) in
+    let m = length-map (standing_from rs q) (at rs) in
+    omega arith
+
+pub standing-own : (rs : List Record) (q : ℕ) → map (at rs) (standing_from rs q) ≡ own_from rs q
+standing-own rs q = standing-entries rs q (length rs - q)
 
 -- ---- one place
 

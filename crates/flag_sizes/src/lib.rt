@@ -2,12 +2,14 @@
 #![tactic(auto)]
 
 pub mod conditions;
+pub mod entries;
 
 ghost use Rattle.std.specs.Prelude.{◌≡◌, ◌+◌, ◌-◌, ◌<◌, ◌≤◌, length};
 ghost use Rattle.rules.specs.Table.{decode, at};
 ghost use Rattle.rules.specs.DesugarFlags.{members_start, entries_from, entries_of, condition_at, entries_at, desugared_at, desugared};
 ghost use Rattle.flag_sizes.specs.Counts.{ConditionsStamped, Counted};
 
+use entries::{Naming, Standing};
 use table::DIVISOR;
 
 // Stamps the remainders of the names that the conditions of a declaration give. Its members start at `from`, which is the stamp: no other
@@ -32,10 +34,12 @@ fn mark_conditions(table: &[u8], from: usize, marks: &mut [u16])
 fn count_entries(table: &[u8], flag: u16, from: usize) -> usize
     ensures { result ≡ length (entries_from (decode table.now) flag from) }
 {
-    (from..table::count(table))
-        .take_while(|p| !kinds::is_decl(table::kind(table, *p)))
-        .filter(|p| conditions::is_condition_on(table, flag, *p))
-        .count()
+    Naming {
+        table,
+        flag,
+        place: from,
+    }
+    .count()
 }
 
 // How many entries are made for the record at `place`, whose declaration's members start at `members`.
@@ -58,9 +62,7 @@ fn count_made(table: &[u8], marks: &[u16], place: usize, members: usize) -> usiz
 fn count_own(table: &[u8], from: usize) -> usize
     ensures { result ≡ length (entries_at (decode table.now) from (length (decode table.now) - from)) }
 {
-    (from..table::count(table))
-        .take_while(|p| table::kind(table, *p) == kinds::FLAG_ENTRY)
-        .count()
+    Standing { table, place: from }.count()
 }
 
 // How many conditions stand behind `place`.

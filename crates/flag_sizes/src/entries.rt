@@ -1,0 +1,59 @@
+// The places that entries come from: one walk over each kind of them serves who counts and who writes.
+ghost use Rattle.std.specs.Iterator.{YieldsFirst, item_count};
+ghost use Rattle.rules.specs.Table.{decode};
+ghost use Rattle.flag_sizes.specs.Places.{naming_from, standing_from};
+
+use crate::conditions;
+
+// The places of the conditions that name `flag`, from `place` to the end of the declaration.
+#[derive(Clone, Copy)]
+pub struct Naming<'a> {
+    pub table: &'a [u8],
+    pub flag: u16,
+    pub place: usize,
+}
+
+impl<'a> Iterator for Naming<'a> {
+    type Item = usize;
+
+    ghost next_gives = { YieldsFirst (λ s. naming_from (decode s.table.now) s.flag s.place) };
+
+    ghost remaining = { item_count (λ s. naming_from (decode s.table.now) s.flag s.place) };
+
+    fn next(&mut self) -> Option<usize> {
+        for p in self.place..table::count(self.table) {
+            if kinds::is_decl(table::kind(self.table, p)) {
+                return None;
+            }
+            self.place = p + 1;
+            if conditions::is_condition_on(self.table, self.flag, p) {
+                return Some(p);
+            }
+        }
+        None
+    }
+}
+
+// The places of the entries that stand one after another from `place` on.
+#[derive(Clone, Copy)]
+pub struct Standing<'a> {
+    pub table: &'a [u8],
+    pub place: usize,
+}
+
+impl<'a> Iterator for Standing<'a> {
+    type Item = usize;
+
+    ghost next_gives = { YieldsFirst (λ s. standing_from (decode s.table.now) s.place) };
+
+    ghost remaining = { item_count (λ s. standing_from (decode s.table.now) s.place) };
+
+    fn next(&mut self) -> Option<usize> {
+        let p = self.place;
+        if p < table::count(self.table) && table::kind(self.table, p) == kinds::FLAG_ENTRY {
+            self.place = p + 1;
+            return Some(p);
+        }
+        None
+    }
+}
