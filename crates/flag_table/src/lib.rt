@@ -9,6 +9,7 @@ ghost use Rattle.flag_sizes.specs.Counts.{Counted};
 ghost use Rattle.flag_table.specs.Writing.{WritingAt};
 ghost use Rattle.flag_table.specs.RecordsAppended.{RecordsAppended, RoomForRecords};
 
+use flag_sizes::entries::{Naming, Standing};
 use rules::Record;
 
 // The entry of the condition at `place`.
@@ -63,14 +64,14 @@ fn write_entries(table: &[u8], flag: u16, from: usize, out: &mut [u8], count: us
     requires { RoomForRecords out.old count (entries_from (decode table.now) flag from) }
     ensures { RecordsAppended out.old count (entries_from (decode table.now) flag from) out.new result }
 {
+    let places = Naming {
+        table,
+        flag,
+        place: from,
+    };
     let mut n = count;
-    for p in from..table::count(table) {
-        if kinds::is_decl(table::kind(table, p)) {
-            return n;
-        }
-        if flag_sizes::conditions::is_condition_on(table, flag, p) {
-            n = append(out, n, entry_of(table, p));
-        }
+    for p in places {
+        n = append(out, n, entry_of(table, p));
     }
     n
 }
@@ -80,13 +81,10 @@ fn write_own(table: &[u8], from: usize, out: &mut [u8], count: usize) -> usize
     requires { RoomForRecords out.old count (entries_at (decode table.now) from (length (decode table.now) - from)) }
     ensures { RecordsAppended out.old count (entries_at (decode table.now) from (length (decode table.now) - from)) out.new result }
 {
+    let places = Standing { table, place: from };
     let mut n = count;
-    for p in from..table::count(table) {
-        let r = records::at(table, p);
-        if r.kind != kinds::FLAG_ENTRY {
-            return n;
-        }
-        n = append(out, n, r);
+    for p in places {
+        n = append(out, n, records::at(table, p));
     }
     n
 }
