@@ -30,10 +30,6 @@ module _ (rs : List Record) (x q : ℕ) where
   entries-end l = rw (left-none (length rs) q l, entries)
 
   module _ (l : q < length rs) (o : is_decl (at rs q).kind ≡ false) where
-    pub entries-hit : is_condition_on rs x q ≡ true → entries_from rs x q ≡ entry_of rs q ∷ entries_from rs x (q + 1)
-    unfolding entries
-    entries-hit i = rw (left-suc (length rs) q l, entries, o, i)
-
     pub entries-miss : is_condition_on rs x q ≡ false → entries_from rs x q ≡ entries_from rs x (q + 1)
     unfolding entries
     entries-miss i = rw (left-suc (length rs) q l, entries, o, i)
@@ -116,19 +112,6 @@ of-few rs r a = go (is_named_field r.kind) refl
 -- the entries that stand one after another from q on
 abbrev pub own_from : List Record → ℕ → List Record
 own_from rs q = entries_at rs q (length rs - q)
-
-module _ (rs : List Record) (q : ℕ) where
-  pub own-end : length rs ≤ q → own_from rs q ≡ []
-  unfolding entries_at
-  own-end l = rw (left-none (length rs) q l, entries_at)
-
-  pub own-other : q < length rs → ¬ ((at rs q).kind ≡ 12) → own_from rs q ≡ []
-  unfolding entries_at
-  own-other l k = rw (left-suc (length rs) q l, entries_at, ne_eqb _ _ k)
-
-  pub own-hit : q < length rs → (at rs q).kind ≡ 12 → own_from rs q ≡ at rs q ∷ own_from rs (q + 1)
-  unfolding entries_at
-  own-hit l k = rw (left-suc (length rs) q l, entries_at, eq-eqb _ _ k)
 
 own-few : (rs : List Record) (n q : ℕ) → length (entries_at rs q n) ≤ n
 unfolding entries_at

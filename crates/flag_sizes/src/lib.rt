@@ -24,7 +24,7 @@ fn mark_conditions(table: &[u8], from: usize, marks: &mut [u16])
             return;
         }
         if kind == kinds::CONDITION {
-            let h = (table::name(table, p) % DIVISOR) as usize;
+            let h = usize::from(table::name(table, p) % DIVISOR);
             marks[h] = from as u16;
         }
     }
@@ -49,7 +49,7 @@ fn count_made(table: &[u8], marks: &[u16], place: usize, members: usize) -> usiz
 {
     let x = table::name(table, place);
     // No condition of the declaration gives this name: true of most records, of whatever kind, so it is asked first.
-    if marks[(x % DIVISOR) as usize] != members as u16 {
+    if marks[usize::from(x % DIVISOR)] != members as u16 {
         return 0;
     }
     if !kinds::is_named_field(table::kind(table, place)) {
@@ -94,10 +94,9 @@ fn mark_next(table: &[u8], place: usize, members: usize, marks: &mut [u16]) -> u
     ensures { (result ≡ members_start (decode table.now) (place + 1)) × ConditionsStamped (decode table.now) marks.new result }
 {
     let next = conditions::next_start(table, place, members);
-    if next == members {
-        return members;
+    if next != members {
+        mark_conditions(table, next, marks);
     }
-    mark_conditions(table, next, marks);
     next
 }
 

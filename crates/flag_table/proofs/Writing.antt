@@ -85,9 +85,6 @@ module _ {whole rest : List Record} {b : List ℕ} {c : ℕ} {b' : List ℕ} {n 
   pub progress-end : rest ≡ [] → RecordsAppended b c whole b' n
   progress-end e = rw (← w.split, e, append-nil w.front) w.done
 
-  pub progress-same : (left : List Record) → rest ≡ left → Progress whole left b c b' n
-  progress-same left e = rw e at w
-
   module _ (m : RoomForRecords b c whole) where
     pub progress-long : length b' ≡ length b
     progress-long = appended-long w.done (room-front w.front rest (rw w.split m))

@@ -8,13 +8,13 @@ use Rattle.rules.specs.Table.{decode, at}
 use Rattle.flag_sizes.proofs.Laws.{of-named, of_other, of_none}
 use Rattle.flag_sizes.proofs.count_made.Goals as goal
 
-pub bounds-marks-x : goal.bounds-marks-x
-bounds-marks-x c = omega (arith, c.requires.1.long)
+pub bounds-marks-from : goal.bounds-marks-from
+bounds-marks-from c = omega (arith, c.requires.1.long, c.from.ensures)
 
-pub returns-then-marks-x : goal.returns-then-marks-x
-returns-then-marks-x c =
+pub returns-then-marks-from : goal.returns-then-marks-from
+returns-then-marks-from c =
     let rs = decode c.args.table.now in
-    ap length (of_none rs (at rs c.args.place) c.args.members (c.requires.1.clear (at rs c.args.place).name (rw (← c.name-x.ensures) c.if-marks-x.true)))
+    ap length (of_none rs (at rs c.args.place) c.args.members (c.requires.1.clear (at rs c.args.place).name (rw (← c.name-x.ensures, ← c.from.ensures) c.if-marks-from.true)))
 
 pub returns-then-not-is_named_field : goal.returns-then-not-is_named_field
 returns-then-not-is_named_field c =

@@ -16,7 +16,7 @@ pub loop-p-preserved : goal.loop-p-preserved
 loop-p-preserved c =
     let inside : is_decl (at (decode c.args.table.now) c.loop-p.p).kind ≡ false = rw (← c.kind-kind.ensures) (sym c.is_decl.ensures ∙ c.if-is_decl.false) in
     elim c.if-kind-eq-CONDITION.branch [
-      | then-kind-eq-CONDITION w ↦ rw w.marks-is (stamping-one c.loop-p.invariant (omega (arith, c.count-p-end.ensures)) inside w.name.ensures)
+      | then-kind-eq-CONDITION w ↦ rw (w.marks-is, w.from-h.ensures) (stamping-one c.loop-p.invariant (omega (arith, c.count-p-end.ensures)) inside w.name.ensures)
       | else-kind-eq-CONDITION w ↦
           rw w.marks-is (stamping-other c.loop-p.invariant (omega (arith, c.count-p-end.ensures)) inside (rw c.kind-kind.ensures at w.if-kind-eq-CONDITION.false))
     ]
