@@ -15,13 +15,10 @@ use targets::holds;
 pub fn nearest(table: &[u8], target: Target, place: usize) -> Option<usize>
     ensures { result ≡ nearest (holds_at (decode table.now) target) place }
 {
-    let mut i = place;
-    while 0 < i {
-        let q = i - 1;
+    for q in (0..place).rev() {
         if holds(table, target, q) {
             return Some(q);
         }
-        i = q;
     }
     None
 }
@@ -30,13 +27,10 @@ pub fn nearest(table: &[u8], target: Target, place: usize) -> Option<usize>
 pub fn first(table: &[u8], target: Target, from: usize) -> Option<usize>
     ensures { result ≡ first_from (decode table.now) target from }
 {
-    let n = table::count(table);
-    let mut i = from;
-    while i < n {
-        if holds(table, target, i) {
-            return Some(i);
+    for p in from..table::count(table) {
+        if holds(table, target, p) {
+            return Some(p);
         }
-        i += 1;
     }
     None
 }
@@ -45,8 +39,6 @@ pub fn first(table: &[u8], target: Target, from: usize) -> Option<usize>
 pub fn first_within(table: &[u8], target: Target, place: usize) -> Option<usize>
     ensures { result ≡ first_within (decode table.now) target place }
 {
-    match nearest(table, Target::Decl, place) {
-        Some(d) => first(table, target, d + 1),
-        None => None,
-    }
+    let decl = nearest(table, Target::Decl, place)?;
+    first(table, target, decl + 1)
 }

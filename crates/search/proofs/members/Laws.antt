@@ -1,5 +1,5 @@
 -- How many members a declaration has, and what stands behind the last record. Assumes nothing.
-use Rattle.std.proofs.Common.{None, Option, Some, ℕ}
+use Rattle.std.proofs.Common.{None, Option, Some, unwrap_or}
 use Prim.Native.Nat.{ℕ, ◌+◌, ◌-◌, ◌<◌, ◌≤◌}
 use mathlib.Core.Path.{◌≡◌, refl, sym, ap}
 use mathlib.Core.List.{List}
@@ -12,23 +12,19 @@ use Rattle.rules.specs.declared.Target.{Target}
 use Rattle.rules.specs.declared.Target.TheVariants.{Decl}
 use Rattle.table.proofs.Laws.{first-in}
 
--- the members of a declaration
+-- the members of a declaration end at the next one, or at the end of the table
 module _ (rs : List Record) (d : ℕ) where
-  counted : (x : Option ℕ) → ((e : ℕ) → x ≡ Some e → (d + 1 ≤ e) × (e < length rs)) → d < length rs → d + 1 + up_to (length rs) (d + 1) x ≤ length rs
-  counted (Some e) h g = let z = h e refl in omega arith
-  counted None h g = omega arith
+  ends : (x : Option ℕ) → ((e : ℕ) → x ≡ Some e → (d + 1 ≤ e) × (e < length rs)) → d < length rs
+      → (d + 1 ≤ unwrap_or x (length rs)) × (unwrap_or x (length rs) ≤ length rs) × (unwrap_or x (length rs) - (d + 1) ≡ up_to (length rs) (d + 1) x)
+  ends (Some e) h g = let z = h e refl in (z.0, omega arith, refl)
+  ends None h g = (omega arith, omega arith, refl)
+
+  pub members-end : d < length rs → (e : ℕ) → e ≡ unwrap_or (first_from rs Decl (d + 1)) (length rs) → (d + 1 ≤ e) × (e ≤ length rs) × (e - (d + 1) ≡ member_count rs d)
+  unfolding member_count
+  members-end g e h = rw h (ends (first_from rs Decl (d + 1)) (first-in (holds_at rs Decl) (length rs) (d + 1)) g)
 
   pub members-in : d < length rs → d + 1 + member_count rs d ≤ length rs
-  unfolding member_count
-  members-in g = counted (first (holds_at rs Decl) (d + 1) (length rs - (d + 1))) (first-in (holds_at rs Decl) (length rs) (d + 1)) g
-
-  pub count_at : (e : ℕ) → d < length rs → first (holds_at rs Decl) (d + 1) (length rs - (d + 1)) ≡ Some e → (d + 1 ≤ e) × (e - (d + 1) ≡ member_count rs d)
-  unfolding member_count
-  count_at e g h = ((first-in (holds_at rs Decl) (length rs) (d + 1) e h).0, rw h)
-
-  pub count-end : first (holds_at rs Decl) (d + 1) (length rs - (d + 1)) ≡ None → length rs - (d + 1) ≡ member_count rs d
-  unfolding member_count
-  count-end h = rw h
+  members-in g = let z = members-end g (unwrap_or (first_from rs Decl (d + 1)) (length rs)) refl in omega arith
 
 -- behind the last record there is nothing
 pub none-past : (rs : List Record) (x : Target) (d : ℕ) → length rs ≤ d → false ≡ found_inside rs (first_from rs x (d + 1))
