@@ -16,11 +16,8 @@ use table::DIVISOR;
 fn start(starts: &[u16], name: u16) -> usize
     ensures { result ≡ get_or starts.now (name % 4093) 0 }
 {
-    let h = (name % DIVISOR) as usize;
-    if h < starts.len() {
-        return starts[h] as usize;
-    }
-    0
+    let h = usize::from(name % DIVISOR);
+    starts.get(h).map_or(0, |s| usize::from(*s))
 }
 
 // The declaration of a name.

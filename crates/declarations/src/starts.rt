@@ -20,7 +20,7 @@ fn set_start(table: &[u8], place: usize, starts: &mut [u16])
     ensures { StartsFrom (decode table.now) starts.new place }
 {
     if kinds::is_named_decl(table::kind(table, place)) {
-        let h = (table::name(table, place) % DIVISOR) as usize;
+        let h = usize::from(table::name(table, place) % DIVISOR);
         starts[h] = place as u16;
     }
 }
@@ -30,9 +30,7 @@ pub fn fill(table: &[u8], starts: &mut [u16])
     requires { (length (decode table.now) ≤ 1600) × (starts.old ≡ replicate 4093 65535) }
     ensures { Starts (decode table.now) starts.new }
 {
-    let mut i = table::count(table);
-    while 0 < i {
-        i -= 1;
-        set_start(table, i, starts);
+    for place in (0..table::count(table)).rev() {
+        set_start(table, place, starts);
     }
 }

@@ -1,13 +1,7 @@
--- `declarations::starts::fill` meets its contract: the starts are those from place i on. Assumes nothing.
-use Prim.Native.Nat.{◌≤◌}
-use mathlib.Core.Path.{◌≡◌}
-use lib.ListN.{length}
+-- `declarations::starts::fill` meets its contract: the starts are those from the place on. Assumes nothing.
 use Rattle.rules.specs.Table.{decode}
 use Rattle.declarations.specs.Starts.{StartsFrom}
 use Rattle.declarations.proofs.starts.fill.Given as goal
 
-abbrev pub invariant-loop-i : goal.invariant-loop-i
-invariant-loop-i l = StartsFrom (decode l.table) l.starts l.i × (l.i ≤ length (decode l.table)) × (length l.starts ≡ length l.initial.starts) × (length l.initial.starts ≡ 4093)
-
-abbrev pub decreases-loop-i : goal.decreases-loop-i
-decreases-loop-i l = l.i
+abbrev pub invariant-loop-place : goal.invariant-loop-place
+invariant-loop-place l = StartsFrom (decode l.table) l.starts l.place

@@ -5,7 +5,7 @@ use Rattle.declarations.proofs.starts.set_start.Goals as goal
 
 pub returns-then-is_named_decl : goal.returns-then-is_named_decl
 returns-then-is_named_decl c =
-    start-here _ _ _ c.requires.0 c.requires.3 _ c.name.ensures c.requires.2
+    rw c.from-h.ensures (start-here _ _ _ c.requires.0 c.requires.3 _ c.name.ensures c.requires.2)
 
 pub returns-else-is_named_decl : goal.returns-else-is_named_decl
 returns-else-is_named_decl c =
