@@ -27,17 +27,15 @@ fn first_payload(table: &[u8], place: usize) -> Option<usize>
 fn second_payload(table: &[u8], place: usize, found: Option<usize>) -> Option<Fault>
     ensures { option_to_list result ≡ second_payload (decode table.now) place found }
 {
-    match found {
-        Some(q) => when(
-            q < place,
-            faults::fault::double(
-                codes::DUPLICATE_PAYLOAD_FIELD,
-                records::at(table, place),
-                records::at(table, q),
-            ),
+    let q = found?;
+    when(
+        q < place,
+        faults::fault::double(
+            codes::DUPLICATE_PAYLOAD_FIELD,
+            records::at(table, place),
+            records::at(table, q),
         ),
-        None => None,
-    }
+    )
 }
 
 fn has_field(table: &[u8], child: usize) -> bool
@@ -50,27 +48,16 @@ fn has_field(table: &[u8], child: usize) -> bool
 fn is_child_with_field(table: &[u8], decl: usize, child: usize) -> bool
     ensures { result ≡ child_with_field (decode table.now) decl child }
 {
-    if kinds::is_packet_or_struct(table::kind(table, child))
-        & (table::second(table, child) == table::name(table, decl))
-    {
-        return has_field(table, child);
-    }
-    false
+    kinds::is_packet_or_struct(table::kind(table, child))
+        && table::second(table, child) == table::name(table, decl)
+        && has_field(table, child)
 }
 
 // The first child of the declaration at `decl` that has a field.
 fn child_with_field(table: &[u8], decl: usize) -> Option<usize>
     ensures { result ≡ first (child_with_field (decode table.now) decl) 0 (length (decode table.now)) }
 {
-    let n = table::count(table);
-    let mut c = 0;
-    while c < n {
-        if is_child_with_field(table, decl, c) {
-            return Some(c);
-        }
-        c += 1;
-    }
-    None
+    (0..table::count(table)).find(|c| is_child_with_field(table, decl, *c))
 }
 
 // 37 if there is no Payload or Body and some child has a field.
@@ -85,13 +72,8 @@ fn missing_payload(table: &[u8], parents: &[u8], decl: usize) -> Option<Fault>
     if has_member(table, Target::PayloadOrDecl, decl) {
         return None;
     }
-    match child_with_field(table, decl) {
-        Some(_) => Some(faults::fault::single(
-            codes::MISSING_PAYLOAD_FIELD,
-            records::at(table, decl),
-        )),
-        None => None,
-    }
+    child_with_field(table, decl)?;
+    Some(faults::fault::single(codes::MISSING_PAYLOAD_FIELD, records::at(table, decl)))
 }
 
 pub fn at_place(table: &[u8], parents: &[u8], place: usize) -> Option<Fault>

@@ -27,10 +27,7 @@ pub fn mark_parents(table: &[u8], parents: &mut [u8])
     requires { length parents.old ≡ 4093 }
     ensures { Parents (decode table.now) parents.new }
 {
-    let n = table::count(table);
-    let mut c = 0;
-    while c < n {
+    for c in 0..table::count(table) {
         mark_parent(table, c, parents);
-        c += 1;
     }
 }

@@ -12,11 +12,11 @@ returns-then-mark_at-eq0 c =
 pub returns-then-has_member : goal.returns-then-has_member
 returns-then-has_member c = payload-missing _ _ _ (sym c.has_member.ensures ∙ c.if-has_member.true)
 
-pub returns-in-Some : goal.returns-in-Some
-unfolding missing_payload when
-returns-in-Some c =
-    rw (c.single.ensures, c.at.ensures, ← c.child_with_field.ensures, c.in-Some.is, sym c.has_member.ensures ∙ c.if-has_member.false)
-
-pub returns-in-None : goal.returns-in-None
+pub returns-in_err-child_with_field : goal.returns-in_err-child_with_field
 unfolding missing_payload
-returns-in-None c = rw (← c.child_with_field.ensures, c.in-None.is)
+returns-in_err-child_with_field c = rw (← c.child_with_field.ensures, c.in_err-child_with_field.was, c.from_residual.ensures)
+
+pub returns : goal.returns
+unfolding missing_payload when
+returns c =
+    rw (c.single.ensures, c.at.ensures, ← c.child_with_field.ensures, c.in_ok-child_with_field.was, sym c.has_member.ensures ∙ c.if-has_member.false)

@@ -2,11 +2,11 @@
 use Rattle.rules.specs.PayloadFields.{second_payload}
 use Rattle.payload_fields.proofs.second_payload.Goals as goal
 
-pub returns-in-Some : goal.returns-in-Some
+pub returns-in_err-q : goal.returns-in_err-q
 unfolding second_payload
-returns-in-Some c =
-    rw (c.in-Some.is, ← c.at.ensures, ← c.at-in-Some.ensures, ← c.double.ensures) c.when.ensures
+returns-in_err-q c = rw (c.from_residual.ensures, c.in_err-q.was)
 
-pub returns-in-None : goal.returns-in-None
+pub returns : goal.returns
 unfolding second_payload
-returns-in-None c = rw c.in-None.is
+returns c =
+    rw (c.in_ok-q.was, ← c.at.ensures, ← c.at-2.ensures, ← c.double.ensures) c.when.ensures

@@ -1,13 +1,7 @@
 -- `payload_fields::parents::mark_parents` meets its contract: the children below c are marked. Assumes nothing.
-use Prim.Native.Nat.{◌-◌, ◌≤◌}
-use mathlib.Core.Path.{◌≡◌}
-use lib.ListN.{length}
 use Rattle.rules.specs.Table.{decode}
 use Rattle.payload_fields.specs.Parents.{NoChildWithField}
 use Rattle.payload_fields.proofs.parents.mark_parents.Given as goal
 
 abbrev pub invariant-loop-c : goal.invariant-loop-c
-invariant-loop-c l = NoChildWithField (decode l.table) l.parents l.c × (l.c ≤ l.n) × (l.n ≡ length (decode l.table)) × (length l.parents ≡ length l.initial.parents)
-
-abbrev pub decreases-loop-c : goal.decreases-loop-c
-decreases-loop-c l = l.n - l.c
+invariant-loop-c l = NoChildWithField (decode l.table) l.parents l.c
