@@ -20,7 +20,7 @@ pub(crate) fn size_code(kind: u8) -> u16
     requires { size ≤ kind }
     ensures { result ≡ size_code kind }
 {
-    codes::DUPLICATE_SIZE_FIELD + CODES_EACH * ((kind - kinds::SIZE) as u16)
+    codes::DUPLICATE_SIZE_FIELD + CODES_EACH * u16::from(kind - kinds::SIZE)
 }
 
 // First a repeat: 23, 26, 29. Size and Count share one map, and ElementSize has its own.

@@ -11,10 +11,7 @@ use table::NO_PLACE;
 fn start_at(starts: &[u16], place: usize) -> u16
     ensures { result ≡ get_or starts.now place 65535 }
 {
-    if place < starts.len() {
-        return starts[place];
-    }
-    NO_PLACE
+    starts.get(place).copied().unwrap_or(NO_PLACE)
 }
 
 // The first match of the record at `place` within its declaration, or what follows it.
@@ -26,5 +23,5 @@ pub fn first_match(table: &[u8], starts: &[u16], target: Target, place: usize) -
     if s == NO_PLACE {
         return search::first_within(table, target, place);
     }
-    search::first(table, target, s as usize)
+    search::first(table, target, usize::from(s))
 }

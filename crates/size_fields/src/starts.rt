@@ -25,12 +25,7 @@ fn start_for(last: &[u16], end: usize, name: u16) -> u16
     requires { (4093 ≤ length last.now) × (end ≤ 1600) }
     ensures { result ≡ start_for last.now end name }
 {
-    let h = (name % DIVISOR) as usize;
-    let s = last[h];
-    if (s as usize) < end {
-        return s;
-    }
-    end as u16
+    last[usize::from(name % DIVISOR)].min(end as u16)
 }
 
 // The start for the record at `place`, if it is a size.
@@ -39,8 +34,7 @@ fn set_start(table: &[u8], place: usize, end: usize, last: &[u16], starts: &mut 
     ensures { SizeStarts (decode table.now) starts.new }
 {
     if is_size(table::kind(table, place)) {
-        let s = start_for(last, end, table::second(table, place));
-        starts[place] = s;
+        starts[place] = start_for(last, end, table::second(table, place));
     }
 }
 
@@ -49,10 +43,8 @@ fn set_starts(table: &[u8], decl: usize, end: usize, last: &[u16], starts: &mut 
     requires { SettingStarts (decode table.now) decl end last.now starts.old }
     ensures { SizeStarts (decode table.now) starts.new }
 {
-    let mut q = decl + 1;
-    while q < end {
+    for q in decl + 1..end {
         set_start(table, q, end, last, starts);
-        q += 1;
     }
 }
 
@@ -65,8 +57,7 @@ fn step(table: &[u8], place: usize, end: usize, last: &mut [u16], starts: &mut [
         set_starts(table, place, end, last, starts);
         return place;
     }
-    let h = (name_of(table, place) % DIVISOR) as usize;
-    last[h] = place as u16;
+    last[usize::from(name_of(table, place) % DIVISOR)] = place as u16;
     end
 }
 
@@ -75,10 +66,8 @@ fn fill_places(table: &[u8], last: &mut [u16], starts: &mut [u16])
     requires { (length (decode table.now) ≤ 1600) × (last.old ≡ replicate 4093 65535) × (1600 ≤ length starts.old) × SizeStarts (decode table.now) starts.old }
     ensures { SizeStarts (decode table.now) starts.new }
 {
-    let mut p = table::count(table);
-    let mut e = p;
-    while 0 < p {
-        p -= 1;
+    let mut e = table::count(table);
+    for p in (0..e).rev() {
         e = step(table, p, e, last, starts);
     }
 }

@@ -17,7 +17,7 @@ use Rattle.rules.specs.Places.{nearest, holds, holds_at, first_from, first_after
 use Rattle.rules.specs.SizeFields.{matching}
 use Rattle.rules.specs.declared.Record.{Record}
 use Rattle.rules.specs.declared.Target.TheVariants.{Decl}
-use Rattle.table.proofs.Laws.{up-miss, same-default}
+use Rattle.table.proofs.Laws.{up-miss}
 use Rattle.table.proofs.Searches.{and-false, nearest-is}
 use Rattle.size_fields.specs.SizeStarts.{target_at, SizeStarts, name_of, start_for, KeptPlaces}
 
@@ -78,17 +78,6 @@ holds-miss j x r d o = go (eqb j 22) refl
 
 start-end : (last : List ℕ) (e x : ℕ) → e ≤ get_or last (x % 4093) 65535 → start_for last e x ≡ e
 start-end last e x h = rw (le-ltb (get_or last (x % 4093) 65535) e h)
-
--- as the code reads it
-module _ (last : List ℕ) (e x : ℕ) (l : 4093 ≤ length last) where
-  read : get_or last (x % 4093) 0 ≡ get_or last (x % 4093) 65535
-  read = same-default last (x % 4093) 0 65535 (let r : x % 4093 < 4093 = mod-lt x (omega arith) in omega arith)
-
-  pub start-before : get_or last (x % 4093) 0 < e → get_or last (x % 4093) 0 ≡ start_for last e x
-  start-before h = rw (← read, lt-ltb (get_or last (x % 4093) 0) e h)
-
-  pub start-at-end : e ≤ get_or last (x % 4093) 0 → e ≡ start_for last e x
-  start-at-end h = sym (start-end last e x (rw (← read) h))
 
 module _ (rs : List Record) (last : List ℕ) where
   -- no place is kept at first

@@ -5,4 +5,4 @@ use Rattle.size_fields.proofs.matches.first_match.Goals as goal
 
 pub returns : goal.returns
 returns c =
-    c.first.ensures ∙ from_start _ _ _ _ _ c.requires.0 c.requires.1 c.start_at-s.ensures c.if-s.false
+    c.first.ensures ∙ from_start _ _ _ _ _ c.requires.0 c.requires.1 (c.from.ensures ∙ c.start_at-s.ensures) (rw c.from.ensures c.if-s.false)

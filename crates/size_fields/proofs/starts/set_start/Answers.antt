@@ -5,4 +5,4 @@ use Rattle.size_fields.proofs.starts.set_start.Goals as goal
 
 pub returns-then-is_size : goal.returns-then-is_size
 returns-then-is_size c =
-    starts-one _ _ _ _ (search rules) c.requires.3.2 (rw (c.start_for-s.ensures, c.second.ensures) c.requires.2)
+    starts-one _ _ _ _ (search rules) c.requires.3.2 (rw (c.start_for.ensures, c.second.ensures) c.requires.2)

@@ -14,4 +14,4 @@ returns-then-is_decl c =
 pub returns : goal.returns
 returns c =
     let d = sym c.is_decl.ensures ∙ c.if-is_decl.false in
-    (c.requires.3.2, later-other _ _ _ _ c.requires.0 c.requires.2 _ c.name_of.ensures c.requires.3.0 (rw (← c.kind.ensures) d))
+    (c.requires.3.2, rw c.from.ensures (later-other _ _ _ _ c.requires.0 c.requires.2 _ c.name_of.ensures c.requires.3.0 (rw (← c.kind.ensures) d)))
