@@ -1,3 +1,2 @@
 pub mod Passes
-pub mod Known
-pub mod Passed
+pub mod Listed

@@ -1,176 +1,214 @@
 // All faults of a pass, by its number: pass 1, and passes 3 to 9, place by place.
 #![tactic(auto)]
 
-ghost use Rattle.std.specs.Prelude.{◌≡◌, ◌⊎◌, List, [], false, ℕ, ◌+◌, ◌^◌, ◌<◌, ◌≤◌, length};
+ghost use Rattle.std.specs.Prelude.{◌≡◌, List, [], ◌++◌, false, ℕ, ◌≤◌, length};
 ghost use Rattle.std.specs.Option.{option_to_list};
 ghost use Rattle.rules.specs.Table.{decode, at};
-ghost use Rattle.rules.specs.declared.Record.{Record};
+ghost use Rattle.rules.specs.Places.{each};
+ghost use Rattle.rules.specs.declared.Fault.{Fault};
 ghost use Rattle.rules.specs.Faults.{log, logged};
-ghost use Rattle.faults.specs.Notes.{noted_all};
-ghost use Rattle.pass_faults.specs.Passes.{pass_at, pass_faults};
-ghost use Rattle.pass_faults.specs.Known.{Known};
-ghost use Rattle.pass_faults.specs.Passed.{is_among, Passed};
+ghost use Rattle.rules.specs.Scopes.{pass1};
+ghost use Rattle.rules.specs.FieldIdentifiers.{pass3};
+ghost use Rattle.rules.specs.SizeFields.{pass5};
+ghost use Rattle.rules.specs.FixedFields.{pass6};
+ghost use Rattle.rules.specs.PayloadFields.{pass7};
+ghost use Rattle.rules.specs.ArrayFields.{pass8};
+ghost use Rattle.rules.specs.PaddingFields.{pass9};
+ghost use Rattle.declarations.specs.Starts.{Starts};
+ghost use Rattle.repeats.specs.Marks.{Marked};
+ghost use Rattle.repeats.specs.declared.marks.Compared.TheVariants.{FieldNames, Sizes, ElementSizes};
+ghost use Rattle.size_fields.specs.SizeStarts.{SizeStarts};
+ghost use Rattle.payload_fields.specs.Parents.{Parents};
+ghost use Rattle.pass_faults.specs.Passes.{pass_faults};
+ghost use Rattle.pass_faults.specs.Listed.{is_among, Lists};
 
+use declarations::starts::is_large;
 use field_identifiers::check_field_identifiers;
 use repeats::marks::Compared;
 use rules::limits::MOST_RECORDS;
 use rules::{Fault, Tally};
 use table::{NO_PLACE, REMAINDERS};
 
-// What a pass finds at a place, where it is at most one fault.
-fn finding(pass: u8, table: &[u8], marks: &[u8], starts: &[u16], place: usize) -> Option<Fault>
-    requires { (pass ≡ 4 → ⊥) × (pass ≡ 5 → ⊥) × Known pass (decode table.now) marks.now [] starts.now }
-    ensures { option_to_list result ≡ pass_at pass (decode table.now) place }
+// Whether the bit of this kind is set.
+fn is_among(kinds: u64, kind: u8) -> bool
+    ensures { result ≡ is_among kinds kind }
 {
-    match pass {
-        1 => scope::at_place(table, starts, place),
-        3 => field_identifiers::at_place(table, marks, place),
-        6 => fixed_fields::at_place(table, starts, place),
-        7 => payload_fields::at_place(table, marks, place),
-        8 => array_fields::at_place(table, place),
-        9 => padding_fields::at_place(table, place),
-        _ => None,
-    }
+    (kinds >> (kind % 64)) % 2 == 1
 }
 
-// Notes what a pass finds at a place.
-fn note_at(
-    pass: u8,
+// All faults that `found_at` finds, at most two a place. It finds none where the kind of the record is not among `kinds`.
+fn run_places<F: Fn(usize) -> (Option<Fault>, Option<Fault>)>(
     table: &[u8],
-    marks: &[u8],
-    elements: &[u8],
-    starts: &[u16],
-    place: usize,
-    tally: Tally,
+    kinds: u64,
+    found_at: F,
     buffer: &mut [u8],
 ) -> Tally
-    requires { (pass ≡ 4 → ⊥) × (tally.total + 2 < 2 ^ 64) × Known pass (decode table.now) marks.now elements.now starts.now }
-    ensures { (log result buffer.new ≡ noted_all (log tally buffer.old) (pass_at pass (decode table.now) place)) × (result.total ≤ tally.total + 2) }
+    requires { F.IsAlwaysCallable found_at }
+    ensures { (listed : ℕ → List Fault) → Lists (F.post found_at) (decode table.now) kinds listed → log result buffer.new ≡ logged buffer.old (each listed (length (decode table.now))) }
 {
-    if pass != 5 {
-        return faults::notes::note_found(tally, buffer, finding(pass, table, marks, starts, place));
-    }
-    let once = faults::notes::note_found(
-        tally,
-        buffer,
-        size_fields::duplicates::size_again(table, marks, elements, place),
-    );
-    faults::notes::note_found(
-        once,
-        buffer,
-        size_fields::targets::size_target(table, starts, place),
-    )
-}
-
-// The kinds of the records that a pass looks at, a bit each.
-fn looked_at(pass: u8) -> u64
-    requires { pass ≡ 4 → ⊥ }
-    ensures { (rs : List Record) (p : ℕ) → is_among result (at rs p).kind ≡ false → pass_at pass rs p ≡ [] }
-{
-    match pass {
-        1 => kinds::NAMED_DECLS,
-        3 => kinds::NAMED_FIELDS,
-        5 => kinds::SIZES,
-        6 => kinds::FIXED_FIELDS,
-        7 => kinds::PAYLOADS_AND_NAMED_DECLS,
-        8 => kinds::ARRAYS,
-        9 => kinds::PADDINGS,
-        _ => 0,
-    }
-}
-
-// The first place from `from` on whose record is of one of these kinds, or the end of the table.
-fn next_of(table: &[u8], bits: u64, from: usize) -> usize
-    requires { from ≤ length (decode table.now) }
-    ensures { Passed bits (decode table.now) from result }
-{
-    let n = table::count(table);
-    let mut p = from;
-    while p < n {
-        if (bits >> (table::kind(table, p) % 64)) % 2 == 1 {
-            return p;
-        }
-        p += 1;
-    }
-    p
-}
-
-// All faults of a pass other than 4, with what it asks for.
-fn run_places(
-    pass: u8,
-    table: &[u8],
-    marks: &[u8],
-    elements: &[u8],
-    starts: &[u16],
-    buffer: &mut [u8],
-) -> Tally
-    requires { (pass ≡ 4 → ⊥) × Known pass (decode table.now) marks.now elements.now starts.now }
-    ensures { log result buffer.new ≡ logged buffer.old (pass_faults pass (decode table.now)) }
-{
-    let n = table::count(table);
-    let bits = looked_at(pass);
     let mut tally = faults::no_faults();
-    let mut p = next_of(table, bits, 0);
-    while p < n {
-        tally = note_at(pass, table, marks, elements, starts, p, tally, buffer);
-        p = next_of(table, bits, p + 1);
+    for place in 0..table::count(table) {
+        if is_among(kinds, table::kind(table, place)) {
+            let (first, second) = found_at(place);
+            tally = faults::notes::note_found(tally, buffer, first);
+            tally = faults::notes::note_found(tally, buffer, second);
+        }
     }
     tally
 }
 
-// Nothing is known: every search looks at all it may have to.
-fn run_plain(pass: u8, table: &[u8], buffer: &mut [u8]) -> Tally
-    requires { pass ≡ 4 → ⊥ }
-    ensures { log result buffer.new ≡ logged buffer.old (pass_faults pass (decode table.now)) }
+// Pass 1, where `starts` says of some names where their declarations start.
+fn scopes(table: &[u8], starts: &[u16], buffer: &mut [u8]) -> Tally
+    requires { Starts (decode table.now) starts.now }
+    ensures { log result buffer.new ≡ logged buffer.old (pass1 (decode table.now)) }
 {
-    let marks = [0u8; 0];
-    let places = [0u16; 0];
-    run_places(pass, table, &marks, &marks, &places, buffer)
+    run_places(
+        table,
+        kinds::NAMED_DECLS,
+        |place| (scope::at_place(table, starts, place), None),
+        buffer,
+    )
 }
 
-// Passes 1 and 6 look up declarations by their names.
-fn run_declared(pass: u8, table: &[u8], buffer: &mut [u8]) -> Tally
-    requires { (length (decode table.now) ≤ 1600) × ((pass ≡ 1) ⊎ (pass ≡ 6)) }
-    ensures { log result buffer.new ≡ logged buffer.old (pass_faults pass (decode table.now)) }
+fn run_scopes(table: &[u8], buffer: &mut [u8]) -> Tally
+    ensures { log result buffer.new ≡ logged buffer.old (pass1 (decode table.now)) }
 {
-    let marks = [0u8; 0];
-    let mut places = [NO_PLACE; REMAINDERS];
-    declarations::starts::fill(table, &mut places);
-    run_places(pass, table, &marks, &marks, &places, buffer)
+    if !is_large(table) {
+        return scopes(table, &[], buffer);
+    }
+    let mut starts = [NO_PLACE; REMAINDERS];
+    declarations::starts::fill(table, &mut starts);
+    scopes(table, &starts, buffer)
 }
 
-// Pass 3 asks which fields may repeat a name. In a small table, where `run_plain` searches for each, it would take longer to ask.
-fn run_fields(table: &[u8], buffer: &mut [u8]) -> Tally
-    ensures { log result buffer.new ≡ logged buffer.old (pass_faults 3 (decode table.now)) }
+// Pass 3, where `marks` says which fields may repeat a name.
+fn field_names(table: &[u8], marks: &[u8], buffer: &mut [u8]) -> Tally
+    requires { Marked (decode table.now) FieldNames marks.now }
+    ensures { log result buffer.new ≡ logged buffer.old (pass3 (decode table.now)) }
 {
+    run_places(
+        table,
+        kinds::NAMED_FIELDS,
+        |place| (field_identifiers::at_place(table, marks, place), None),
+        buffer,
+    )
+}
+
+// In a small table, where `field_names` searches for each, it would take longer to ask which fields may repeat a name.
+fn run_field_names(table: &[u8], buffer: &mut [u8]) -> Tally
+    ensures { log result buffer.new ≡ logged buffer.old (pass3 (decode table.now)) }
+{
+    if !is_large(table) {
+        return field_names(table, &[], buffer);
+    }
     let mut marks = [1u8; MOST_RECORDS];
     repeats::marks::mark(table, Compared::FieldNames, &mut marks);
     check_field_identifiers(table, &marks, buffer)
 }
 
-// Pass 5 asks which sizes may repeat a name, and where to search for what they name.
-fn run_sizes(table: &[u8], buffer: &mut [u8]) -> Tally
-    requires { length (decode table.now) ≤ 1600 }
-    ensures { log result buffer.new ≡ logged buffer.old (pass_faults 5 (decode table.now)) }
+// Pass 5, where `sizes` and `elements` say which sizes may repeat a name, and `starts` where to search for what they name.
+fn sizes(table: &[u8], sizes: &[u8], elements: &[u8], starts: &[u16], buffer: &mut [u8]) -> Tally
+    requires { Marked (decode table.now) Sizes sizes.now × Marked (decode table.now) ElementSizes elements.now × SizeStarts (decode table.now) starts.now }
+    ensures { log result buffer.new ≡ logged buffer.old (pass5 (decode table.now)) }
 {
-    let mut sizes = [1u8; MOST_RECORDS];
-    let mut elements = [1u8; MOST_RECORDS];
-    let mut places = [NO_PLACE; MOST_RECORDS];
-    repeats::marks::mark(table, Compared::Sizes, &mut sizes);
-    repeats::marks::mark(table, Compared::ElementSizes, &mut elements);
-    size_fields::starts::fill(table, &mut places);
-    run_places(5, table, &sizes, &elements, &places, buffer)
+    run_places(
+        table,
+        kinds::SIZES,
+        |place| {
+            (
+                size_fields::duplicates::size_again(table, sizes, elements, place),
+                size_fields::targets::size_target(table, starts, place),
+            )
+        },
+        buffer,
+    )
 }
 
-// Pass 7 asks which names a child with a field has for its parent.
-fn run_parents(table: &[u8], buffer: &mut [u8]) -> Tally
-    ensures { log result buffer.new ≡ logged buffer.old (pass_faults 7 (decode table.now)) }
+fn run_sizes(table: &[u8], buffer: &mut [u8]) -> Tally
+    ensures { log result buffer.new ≡ logged buffer.old (pass5 (decode table.now)) }
 {
+    if !is_large(table) {
+        return sizes(table, &[], &[], &[], buffer);
+    }
+    let mut repeated = [1u8; MOST_RECORDS];
+    let mut elements = [1u8; MOST_RECORDS];
+    let mut starts = [NO_PLACE; MOST_RECORDS];
+    repeats::marks::mark(table, Compared::Sizes, &mut repeated);
+    repeats::marks::mark(table, Compared::ElementSizes, &mut elements);
+    size_fields::starts::fill(table, &mut starts);
+    sizes(table, &repeated, &elements, &starts, buffer)
+}
+
+// Pass 6, where `starts` says of some names where their declarations start.
+fn fixed_values(table: &[u8], starts: &[u16], buffer: &mut [u8]) -> Tally
+    requires { Starts (decode table.now) starts.now }
+    ensures { log result buffer.new ≡ logged buffer.old (pass6 (decode table.now)) }
+{
+    run_places(
+        table,
+        kinds::FIXED_FIELDS,
+        |place| (fixed_fields::at_place(table, starts, place), None),
+        buffer,
+    )
+}
+
+fn run_fixed_values(table: &[u8], buffer: &mut [u8]) -> Tally
+    ensures { log result buffer.new ≡ logged buffer.old (pass6 (decode table.now)) }
+{
+    if !is_large(table) {
+        return fixed_values(table, &[], buffer);
+    }
+    let mut starts = [NO_PLACE; REMAINDERS];
+    declarations::starts::fill(table, &mut starts);
+    fixed_values(table, &starts, buffer)
+}
+
+// Pass 7, where `parents` says which names a child with a field may have for its parent.
+fn payloads(table: &[u8], parents: &[u8], buffer: &mut [u8]) -> Tally
+    requires { Parents (decode table.now) parents.now }
+    ensures { log result buffer.new ≡ logged buffer.old (pass7 (decode table.now)) }
+{
+    run_places(
+        table,
+        kinds::PAYLOADS_AND_NAMED_DECLS,
+        |place| (payload_fields::at_place(table, parents, place), None),
+        buffer,
+    )
+}
+
+fn run_payloads(table: &[u8], buffer: &mut [u8]) -> Tally
+    ensures { log result buffer.new ≡ logged buffer.old (pass7 (decode table.now)) }
+{
+    if !is_large(table) {
+        return payloads(table, &[], buffer);
+    }
     let mut parents = [0u8; REMAINDERS];
-    let none = [0u8; 0];
-    let places = [0u16; 0];
     payload_fields::parents::mark_parents(table, &mut parents);
-    run_places(7, table, &parents, &none, &places, buffer)
+    payloads(table, &parents, buffer)
+}
+
+// Pass 8.
+fn run_arrays(table: &[u8], buffer: &mut [u8]) -> Tally
+    ensures { log result buffer.new ≡ logged buffer.old (pass8 (decode table.now)) }
+{
+    run_places(
+        table,
+        kinds::ARRAYS,
+        |place| (array_fields::at_place(table, place), None),
+        buffer,
+    )
+}
+
+// Pass 9.
+fn run_paddings(table: &[u8], buffer: &mut [u8]) -> Tally
+    ensures { log result buffer.new ≡ logged buffer.old (pass9 (decode table.now)) }
+{
+    run_places(
+        table,
+        kinds::PADDINGS,
+        |place| (padding_fields::at_place(table, place), None),
+        buffer,
+    )
 }
 
 // All faults of a pass. Only pass 4 needs a bound on the table.
@@ -178,18 +216,15 @@ pub fn run(pass: u8, table: &[u8], buffer: &mut [u8]) -> Tally
     requires { pass ≡ 4 → length (decode table.now) ≤ 1600 }
     ensures { log result buffer.new ≡ logged buffer.old (pass_faults pass (decode table.now)) }
 {
-    if pass == 4 {
-        return enum_declarations::check_enum_declarations(table, buffer);
-    }
-    if !declarations::starts::is_large(table) {
-        return run_plain(pass, table, buffer);
-    }
     match pass {
-        1 => run_declared(1, table, buffer),
-        3 => run_fields(table, buffer),
+        1 => run_scopes(table, buffer),
+        3 => run_field_names(table, buffer),
+        4 => enum_declarations::check_enum_declarations(table, buffer),
         5 => run_sizes(table, buffer),
-        6 => run_declared(6, table, buffer),
-        7 => run_parents(table, buffer),
-        _ => run_plain(pass, table, buffer),
+        6 => run_fixed_values(table, buffer),
+        7 => run_payloads(table, buffer),
+        8 => run_arrays(table, buffer),
+        9 => run_paddings(table, buffer),
+        _ => faults::no_faults(),
     }
 }

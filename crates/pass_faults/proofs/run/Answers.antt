@@ -1,46 +1,49 @@
 -- `pass_faults::run` meets its contract. Assumes nothing.
-use mathlib.Core.Path.{refl}
-use mathlib.Core.Logic.{inl, inr}
+use borrow.Author.Tests.{ne_eqb}
+use mathlib.Core.Path.{sym}
+use native.Mathlib.Omega.{arith}
 use Rattle.rules.specs.Replies.{later_faults}
+use Rattle.faults.proofs.Laws.{logged_none}
 use Rattle.pass_faults.specs.Passes.{pass_faults}
 use Rattle.pass_faults.proofs.run.Goals as goal
 
-pub check_enum_declarations-requires : goal.check_enum_declarations-requires
-check_enum_declarations-requires c =
-    c.requires c.if-pass-eq4.true
-
-pub returns-then-pass-eq4 : goal.returns-then-pass-eq4
-unfolding pass_faults later_faults
-returns-then-pass-eq4 c =
-    rw c.if-pass-eq4.true c.check_enum_declarations.ensures
-
 pub returns-in-1 : goal.returns-in-1
-returns-in-1 c =
-    rw c.in-1.is c.run_declared.ensures
+unfolding pass_faults later_faults
+returns-in-1 c = rw c.in-1.is c.run_scopes.ensures
 
 pub returns-in-3 : goal.returns-in-3
-returns-in-3 c =
-    rw c.in-3.is c.run_fields.ensures
+unfolding pass_faults later_faults
+returns-in-3 c = rw c.in-3.is c.run_field_names.ensures
+
+pub returns-in-4 : goal.returns-in-4
+unfolding pass_faults later_faults
+returns-in-4 c = rw c.in-4.is c.check_enum_declarations.ensures
 
 pub returns-in-5 : goal.returns-in-5
-returns-in-5 c =
-    rw c.in-5.is c.run_sizes.ensures
+unfolding pass_faults later_faults
+returns-in-5 c = rw c.in-5.is c.run_sizes.ensures
 
 pub returns-in-6 : goal.returns-in-6
-returns-in-6 c =
-    rw c.in-6.is c.run_declared-in-6.ensures
+unfolding pass_faults later_faults
+returns-in-6 c = rw c.in-6.is c.run_fixed_values.ensures
 
 pub returns-in-7 : goal.returns-in-7
-returns-in-7 c =
-    rw c.in-7.is c.run_parents.ensures
+unfolding pass_faults later_faults
+returns-in-7 c = rw c.in-7.is c.run_payloads.ensures
 
--- a table for which the arrays pay has at most 1,600 records
-pub run_sizes-requires : goal.run_sizes-requires
-run_sizes-requires c =
-    c.is_large.ensures (c.if-not-is_large.false)
+pub returns-in-8 : goal.returns-in-8
+unfolding pass_faults later_faults
+returns-in-8 c = rw c.in-8.is c.run_arrays.ensures
 
-pub run_declared-requires : goal.run_declared-requires
-run_declared-requires c = (c.is_large.ensures (c.if-not-is_large.false), inl refl)
+pub returns-in-9 : goal.returns-in-9
+unfolding pass_faults later_faults
+returns-in-9 c = rw c.in-9.is c.run_paddings.ensures
 
-pub run_declared-requires-in-6 : goal.run_declared-requires-in-6
-run_declared-requires-in-6 c = (c.is_large.ensures (c.if-not-is_large.false), inr refl)
+pub check_enum_declarations-requires : goal.check_enum_declarations-requires
+check_enum_declarations-requires c = c.requires c.in-4.is
+
+pub returns-in_default : goal.returns-in_default
+unfolding pass_faults later_faults
+returns-in_default c =
+    rw (c.no_faults.ensures, ne_eqb c.args.pass 1 (λ e. omega arith), ne_eqb c.args.pass 3 (λ e. omega arith), ne_eqb c.args.pass 4 (λ e. omega arith), ne_eqb c.args.pass 5 (λ e. omega arith), ne_eqb c.args.pass 6 (λ e. omega arith), ne_eqb c.args.pass 7 (λ e. omega arith), ne_eqb c.args.pass 8 (λ e. omega arith), ne_eqb c.args.pass 9 (λ e. omega arith))
+    (sym (logged_none _ _ (omega arith)))

@@ -1,0 +1,24 @@
+-- `pass_faults::run_paddings` meets its contract. Assumes nothing.
+use Prim.Native.Nat.{ℕ}
+use mathlib.Core.Path.{◌≡◌, refl}
+use mathlib.Core.Bool.{false}
+use mathlib.Core.List.{List, [], append-nil}
+use native.Mathlib.Omega.{arith}
+use Rattle.std.proofs.lemmas.Grind.{common_steps}
+use Rattle.rules.specs.Places.{first}
+use Rattle.rules.specs.Table.{at}
+use Rattle.rules.specs.PaddingFields.{pass9_at, pass9}
+use Rattle.rules.specs.declared.Record.{Record}
+use Rattle.pass_faults.specs.Listed.{is_among}
+use Rattle.pass_faults.proofs.Passed.{not_equal}
+use Rattle.pass_faults.proofs.run_paddings.Goals as goal
+
+-- no record of another kind has faults
+passed : (rs : List Record) (p : ℕ) → is_among 2097152 (at rs p).kind ≡ false → pass9_at rs p ≡ []
+unfolding pass9_at first is_among
+passed rs p h = let e = not_equal _ _ h 21 (omega arith) refl in rw e
+
+pub returns : goal.returns
+unfolding pass9
+returns c =
+    c.run_places.ensures (pass9_at _) (record { found = λ p r e. grind (arith, common_steps, append-nil); passed = passed _ })
