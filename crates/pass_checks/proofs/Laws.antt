@@ -1,5 +1,5 @@
 -- The passes in order. Assumes nothing.
-use Rattle.std.proofs.Common.{Some, Result, Err}
+use Rattle.std.proofs.Common.{Some, Err}
 use Prim.Native.Nat.{ℕ, ◌<◌, ◌≤◌}
 use mathlib.Core.Path.{◌≡◌, ap, ◌∙◌}
 use mathlib.Core.List.{List}
@@ -16,7 +16,6 @@ use Rattle.rules.specs.DeclIdentifiers.{ordered}
 use Rattle.faults.proofs.Laws.{logged_none}
 use Rattle.pass_faults.specs.Passes.{pass_faults}
 use Rattle.pass_checks.specs.Later.{outcome, finds_later, by_later}
-use Rattle.pass_checks.specs.declared.Faulty.{Faulty}
 
 -- the later passes are those of the rules
 pub pass-later : (k : ℕ) (rs : List Record) → 3 ≤ k → pass_faults k rs ≡ later_faults k rs

@@ -29,14 +29,11 @@ pub fn run_later(table: &[u8], buffer: &mut [u8]) -> Result<(), Faulty>
     requires { length (decode table.now) ≤ 1600 }
     ensures { outcome result buffer.new ≡ later (decode table.now) buffer.old }
 {
-    let mut pass = 3;
-    while pass < 10 {
-        let tally = run(pass, table, buffer);
-        if 0 < tally.total {
-            let total = tally.total;
+    for pass in 3..10 {
+        let total = run(pass, table, buffer).total;
+        if 0 < total {
             return Err(Faulty { pass, total });
         }
-        pass += 1;
     }
     Ok(())
 }

@@ -1,5 +1,5 @@
 -- `pass_checks::run_later` meets its contract: the passes below this one find nothing, and the buffer is as it was. Assumes nothing.
-use Prim.Native.Nat.{◌-◌, ◌≤◌}
+use Prim.Native.Nat.{◌-◌}
 use mathlib.Core.Path.{◌≡◌}
 use Rattle.rules.specs.Table.{decode}
 use Rattle.rules.specs.Places.{first}
@@ -8,7 +8,4 @@ use Rattle.pass_checks.proofs.run_later.Given as goal
 
 abbrev pub invariant-loop-pass : goal.invariant-loop-pass
 invariant-loop-pass l =
-    (l.buffer ≡ l.initial.buffer) × (first (finds_later (decode l.table)) 3 (10 - 3) ≡ first (finds_later (decode l.table)) l.pass (10 - l.pass)) × (3 ≤ l.pass) × (l.pass ≤ 10)
-
-abbrev pub decreases-loop-pass : goal.decreases-loop-pass
-decreases-loop-pass l = 10 - l.pass
+    (l.buffer ≡ l.initial.buffer) × (first (finds_later (decode l.table)) 3 (10 - 3) ≡ first (finds_later (decode l.table)) l.pass (10 - l.pass))
