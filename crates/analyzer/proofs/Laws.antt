@@ -12,7 +12,7 @@ use Rattle.std.specs.Prelude.{if◌then◌else◌}
 use Rattle.rules.specs.Table.{decode, record_length, most_records}
 use Rattle.rules.specs.Places.{first}
 use Rattle.rules.specs.Layouts.{layout, unsound_at, if_found}
-use Rattle.rules.specs.Replies.{by_layout, answer, layout_numbered}
+use Rattle.rules.specs.Replies.{by_layout, answer, layout_numbered, numbered}
 use Rattle.rules.specs.declared.LayoutError.{LayoutError}
 use Rattle.rules.specs.declared.LayoutError.TheVariants as layouts
 
@@ -22,7 +22,7 @@ layout-answer i t f e = ap (by_layout i t f) e
 
 -- a sound table has at most 1,600 records
 pub sound-few : (i : List ℕ) {l : Result (Unit {0}) LayoutError} → l ≡ layout i → l ≡ Ok tt → length (decode i) ≤ 1600
-unfolding layout layout_numbered
+unfolding layout layout_numbered numbered
 sound-few i {l} e h = go (not (eqb (length i % record_length) 0)) (ltb most_records (length (decode i))) refl (sym e ∙ h)
   where
     go : (a b : Bool) → ltb most_records (length (decode i)) ≡ b

@@ -13,4 +13,5 @@ returns-in-Ok c = c.check_table.ensures ∙ layout-answer c.args.input.now c.arg
 
 pub returns-in-Err : goal.returns-in-Err
 unfolding by_layout
-returns-in-Err c = ?
+returns-in-Err c =
+    rw c.from.ensures (layout-answer c.args.input.now c.args.table.now c.args.faults.now (sym c.in-Err.is ∙ c.check_layout.ensures.value))
