@@ -1,6 +1,6 @@
 -- Laws of the kinds around a place. Assumes nothing.
 use Prim.Native.Nat.{ℕ, zero, suc, ◌+◌, ◌-◌}
-use mathlib.Core.Path.{◌≡◌, refl}
+use mathlib.Core.Path.{◌≡◌, refl, ap, ◌∙◌}
 use mathlib.Core.List.{List}
 use mathlib.Core.Bool.{Bool, true, false}
 use native.Mathlib.Omega.{arith}
@@ -13,11 +13,12 @@ use Rattle.rules.specs.Places.{nearest, holds_at}
 use Rattle.rules.specs.Layouts.{found_kind, kind_before}
 use Rattle.rules.specs.declared.Record.{Record}
 use Rattle.rules.specs.declared.Target.TheVariants.{Decl}
+use Rattle.layout.specs.declared.Around.{Around}
 use Rattle.layout.specs.Surroundings.{kinds_around, around, after}
 
-pub around-start : (rs : List Record) → kinds_around 0 0 0 ≡ around rs 0
+pub around-start : (rs : List Record) {a : Around} → (a.decl ≡ 0) × ((a.before2 ≡ 0) × (a.before1 ≡ 0)) → a ≡ around rs 0
 unfolding around nearest found_kind kind_before
-around-start rs = refl
+around-start rs {a} (d, (o, q)) = ap (λ (n : ℕ). kinds_around n a.before2 a.before1) d ∙ ap (λ (n : ℕ). kinds_around 0 n a.before1) o ∙ ap (kinds_around 0 0) q
 
 module _ (rs : List Record) (p : ℕ) where
   decl-next : found_kind rs (nearest (holds_at rs Decl) (suc p)) ≡ (if is_decl (at rs p).kind then (at rs p).kind else found_kind rs (nearest (holds_at rs Decl) p))

@@ -14,7 +14,7 @@ use rules::LayoutError;
 use rules::limits::{MOST_RECORDS, RECORD_LENGTH};
 
 // The kinds around a place: of its declaration, and of the records two and one before it; 0 outside the table.
-#[derive(Clone, Copy)]
+#[derive(Clone, Copy, Default)]
 struct Around {
     decl: u8,
     before2: u8,
@@ -73,15 +73,13 @@ fn sound_at(table: &[u8], place: usize, surroundings: Around) -> bool
 fn step(surroundings: Around, kind: u8) -> Around
     ensures { result ≡ after surroundings kind }
 {
-    if is_decl(kind) {
-        return Around {
-            decl: kind,
-            before2: surroundings.before1,
-            before1: kind,
-        };
-    }
+    let decl = if is_decl(kind) {
+        kind
+    } else {
+        surroundings.decl
+    };
     Around {
-        decl: surroundings.decl,
+        decl,
         before2: surroundings.before1,
         before1: kind,
     }
@@ -99,18 +97,12 @@ pub fn check_layout(table: &[u8]) -> Result<(), LayoutError>
     if MOST_RECORDS < n {
         return Err(LayoutError::TooLong);
     }
-    let mut a = Around {
-        decl: 0,
-        before2: 0,
-        before1: 0,
-    };
-    let mut p = 0;
-    while p < n {
+    let mut a = Around::default();
+    for p in 0..n {
         if !sound_at(table, p, a) {
             return Err(LayoutError::Malformed(p));
         }
         a = step(a, table::kind(table, p));
-        p += 1;
     }
     Ok(())
 }

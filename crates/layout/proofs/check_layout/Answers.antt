@@ -33,7 +33,7 @@ returns-then-n-gt-MOST_RECORDS c =
     record { value = e; numbered = ap layout_numbered e }
 
 pub loop-p-init : goal.loop-p-init
-loop-p-init c = (refl, around-start _)
+loop-p-init c = (refl, around-start _ c.default-a.ensures)
 
 pub sound_at-requires : goal.sound_at-requires
 sound_at-requires c =

@@ -7,6 +7,6 @@ pub returns-then-is_decl : goal.returns-then-is_decl
 unfolding after
 returns-then-is_decl c = rw (sym c.is_decl.ensures ∙ c.if-is_decl.true)
 
-pub returns : goal.returns
+pub returns-else-is_decl : goal.returns-else-is_decl
 unfolding after
-returns c = rw (sym c.is_decl.ensures ∙ c.if-is_decl.false)
+returns-else-is_decl c = rw (sym c.is_decl.ensures ∙ c.if-is_decl.false)
