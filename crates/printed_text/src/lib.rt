@@ -27,11 +27,9 @@ fn append_numbers(text: &mut [u8], at: usize, numbers: &[u64]) -> usize
     ensures { TextAppended text.old at (listing numbers.now) text.new result }
 {
     let mut p = at;
-    let mut i = 0;
-    while i < numbers.len() {
+    for number in numbers {
         text[p] = b' ';
-        p = append_digits(text, p + 1, numbers[i]);
-        i += 1;
+        p = append_digits(text, p + 1, *number);
     }
     p
 }

@@ -10,7 +10,6 @@ use lib.ListN.{length}
 use Rattle.rules.specs.Places.{first}
 use Rattle.rules.specs.Layouts.{layout}
 use Rattle.rules.specs.Replies.{layout_numbered}
-use Rattle.rules.specs.declared.LayoutError.{LayoutError}
 use Rattle.rules.specs.declared.LayoutError.TheVariants.{Uneven, TooLong, Malformed}
 use Rattle.table.proofs.Laws.{up-hit, up-miss, up-end}
 use Rattle.layout.proofs.Laws.{around-start, around-next}

@@ -9,4 +9,3 @@ use Rattle.layout.proofs.check_layout.Given as goal
 
 abbrev pub invariant-loop-p : goal.invariant-loop-p
 invariant-loop-p l = (first (unsound_at l.table) 0 (l.n - 0) ≡ first (unsound_at l.table) l.p (l.n - l.p)) × (l.a ≡ around (decode l.table) l.p)
-
