@@ -69,10 +69,8 @@ fn append_records(text: &mut [u8], at: usize, table: &[u8], count: usize) -> usi
     ensures { TextAppended text.old at (record_lines table.now count) text.new result }
 {
     let mut p = at;
-    let mut i = 0;
-    while i < count {
+    for i in 0..count {
         p = append_record(text, p, records::record(table, i));
-        i += 1;
     }
     p
 }
@@ -83,10 +81,8 @@ fn append_faults(text: &mut [u8], at: usize, faults: &[u8], count: usize) -> usi
     ensures { TextAppended text.old at (fault_lines faults.now count) text.new result }
 {
     let mut p = at;
-    let mut i = 0;
-    while i < count {
+    for i in 0..count {
         p = append_fault(text, p, fault_at(faults, FAULT_LENGTH * i));
-        i += 1;
     }
     p
 }
@@ -95,11 +91,7 @@ fn append_faults(text: &mut [u8], at: usize, faults: &[u8], count: usize) -> usi
 fn kept_faults(total: usize, faults: &[u8]) -> usize
     ensures { result ≡ min total (fault_room faults.now) }
 {
-    let room = faults.len() / FAULT_LENGTH;
-    if room < total {
-        return room;
-    }
-    total
+    total.min(faults.len() / FAULT_LENGTH)
 }
 
 // What stands behind the reply's line: the faults kept, or the records.

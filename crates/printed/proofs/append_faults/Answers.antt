@@ -7,7 +7,7 @@ use Rattle.printed.proofs.append_faults.Goals as goal
 
 pub loop-i-init : goal.loop-i-init
 unfolding fault_lines
-loop-i-init c = (each_none (fault_line_at c.args.faults.now) _ _, refl, search rules)
+loop-i-init c = (each_none (fault_line_at c.args.faults.now) _ _, refl)
 
 pub append_fault-p-requires : goal.append_fault-p-requires
 unfolding fault_lines
@@ -19,10 +19,9 @@ unfolding fault_lines
 loop-i-preserved c = (
   append-each (fault_line_at c.args.faults.now) 105 c.args.count (λ q. length-fault _) c.loop-i.i c.requires.0 c.loop-i.invariant.1 c.loop-i.invariant.0 c.loop-i-test.true (ap fault_line c.fault_at.ensures) c.append_fault-p.ensures,
   search rules,
-  search rules,
 )
 
 pub returns : goal.returns
 unfolding fault_lines
 returns c =
-    each-done (fault_line_at c.args.faults.now) 105 c.args.count (λ q. length-fault _) c.loop-i.i c.requires.0 c.loop-i.invariant.1 c.loop-i.invariant.0 c.loop-i.invariant.2 c.loop-i-test.false
+    each-done (fault_line_at c.args.faults.now) 105 c.args.count (λ q. length-fault _) c.loop-i.i c.requires.0 c.loop-i.invariant.1 c.loop-i.invariant.0 c.loop-i.auto.i-end c.loop-i-test.false

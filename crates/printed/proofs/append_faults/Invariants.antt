@@ -1,5 +1,4 @@
 -- `printed::append_faults` meets its contract: after i turns the lines of the first i faults are appended. Assumes nothing.
-use Prim.Native.Nat.{◌-◌, ◌≤◌}
 use mathlib.Core.Path.{◌≡◌}
 use lib.ListN.{length}
 use Rattle.rules.specs.Printed.{fault_lines}
@@ -8,7 +7,4 @@ use Rattle.printed.proofs.append_faults.Given as goal
 
 abbrev pub invariant-loop-i : goal.invariant-loop-i
 invariant-loop-i l =
-    TextAppended l.initial.text l.at (fault_lines l.faults l.i) l.text l.p × (length l.text ≡ length l.initial.text) × (l.i ≤ l.count)
-
-abbrev pub decreases-loop-i : goal.decreases-loop-i
-decreases-loop-i l = l.count - l.i
+    TextAppended l.initial.text l.at (fault_lines l.faults l.i) l.text l.p × (length l.text ≡ length l.initial.text)

@@ -9,7 +9,7 @@ use Rattle.printed.proofs.append_records.Goals as goal
 
 pub loop-i-init : goal.loop-i-init
 unfolding record_lines
-loop-i-init c = (each_none (record_line_at c.args.table.now) _ _, refl, search rules)
+loop-i-init c = (each_none (record_line_at c.args.table.now) _ _, refl)
 
 pub record-requires : goal.record-requires
 record-requires c =
@@ -26,10 +26,9 @@ loop-i-preserved c =
     let e = c.«record».ensures ∙ at-decode c.args.table.now c.loop-i.i (omega (arith, length-decode c.args.table.now, c.requires.1, c.loop-i-test.true)) in (
       append-each (record_line_at c.args.table.now) 210 c.args.count (λ q. length-record _) c.loop-i.i c.requires.0 c.loop-i.invariant.1 c.loop-i.invariant.0 c.loop-i-test.true (ap record_line e) c.append_record-p.ensures,
       search rules,
-      search rules,
     )
 
 pub returns : goal.returns
 unfolding record_lines
 returns c =
-    each-done (record_line_at c.args.table.now) 210 c.args.count (λ q. length-record _) c.loop-i.i c.requires.0 c.loop-i.invariant.1 c.loop-i.invariant.0 c.loop-i.invariant.2 c.loop-i-test.false
+    each-done (record_line_at c.args.table.now) 210 c.args.count (λ q. length-record _) c.loop-i.i c.requires.0 c.loop-i.invariant.1 c.loop-i.invariant.0 c.loop-i.auto.i-end c.loop-i-test.false
