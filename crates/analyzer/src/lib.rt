@@ -1,7 +1,7 @@
 // The analyzer: the rows of the table of replies, first match from the top.
 #![tactic(auto)]
 
-ghost use Rattle.std.specs.Prelude.{◌≡◌, ◌≤◌, length};
+ghost use Rattle.std.specs.Prelude.{◌≡◌, ◌*◌, ◌≤◌, length};
 ghost use Rattle.rules.specs.Table.{decode};
 ghost use Rattle.rules.specs.Replies.{answered, by_passes, answer};
 
@@ -13,21 +13,12 @@ use table::FEW_RECORDS;
 // The bytes of a table of few records.
 const FEW_LENGTH: usize = RECORD_LENGTH * FEW_RECORDS;
 
-// With a listed table of its own, as are those for the inlined table: the caller's buffer changes only on acceptance.
-fn check_small(input: &[u8], table: &mut [u8], faults: &mut [u8]) -> Reply
-    requires { length (decode input.now) ≤ 64 }
+// With a listed table of its own, of N bytes, as are those for the inlined table: the caller's buffer changes only on acceptance.
+fn check_in<const N: usize>(input: &[u8], table: &mut [u8], faults: &mut [u8]) -> Reply
+    requires { (length (decode input.now) ≤ 1600) × (40 * length (decode input.now) ≤ N) × (N ≤ 64000) }
     ensures { answered result table.new faults.new ≡ by_passes (decode input.now) table.old faults.old }
 {
-    let mut listed = [0u8; FEW_LENGTH];
-    check_passes(input, &mut listed, table, faults)
-}
-
-// The same for the longest tables.
-fn check_large(input: &[u8], table: &mut [u8], faults: &mut [u8]) -> Reply
-    requires { length (decode input.now) ≤ 1600 }
-    ensures { answered result table.new faults.new ≡ by_passes (decode input.now) table.old faults.old }
-{
-    let mut listed = [0u8; TABLE_LENGTH];
+    let mut listed = [0u8; N];
     check_passes(input, &mut listed, table, faults)
 }
 
@@ -37,9 +28,9 @@ fn check_table(input: &[u8], table: &mut [u8], faults: &mut [u8]) -> Reply
     ensures { answered result table.new faults.new ≡ by_passes (decode input.now) table.old faults.old }
 {
     if FEW_RECORDS < table::count(input) {
-        return check_large(input, table, faults);
+        return check_in::<TABLE_LENGTH>(input, table, faults);
     }
-    check_small(input, table, faults)
+    check_in::<FEW_LENGTH>(input, table, faults)
 }
 
 // Analyzes a table: the reply, the accepted table at the start of one buffer or the first faults in the other.
