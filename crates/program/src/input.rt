@@ -27,11 +27,7 @@ fn room_for(total: usize, count: usize) -> usize
     requires { total ≤ 64040 }
     ensures { (result ≤ count) × (total + result ≤ 64040) × (total + count ≤ 64040 → result ≡ count) }
 {
-    let room = INPUT_LENGTH - total;
-    if room < count {
-        return room;
-    }
-    count
+    count.min(INPUT_LENGTH - total)
 }
 
 // Puts the next bytes behind the first ones of the input, as far as there is room.

@@ -3,7 +3,7 @@
 
 mod input;
 
-ghost use Rattle.std.specs.Prelude.{◌≡◌, ◌≤◌, length};
+ghost use Rattle.std.specs.Prelude.{◌≤◌, length};
 ghost use Rattle.rules.specs.Replies.{answer};
 ghost use Rattle.rules.specs.Printed.{printed, program};
 ghost use Rattle.printed_text.specs.TextAppended.{TextBegins};
@@ -12,30 +12,11 @@ use input::INPUT_LENGTH;
 use rules::limits::TABLE_LENGTH;
 use std::io::{Eprint, Error, Input, Print};
 
-// Room for every length of which the reply depends on more than the remainder, and for each remainder above.
-fn input_buffer() -> [u8; INPUT_LENGTH]
-    ensures { 64040 ≡ length result }
-{
-    [0; INPUT_LENGTH]
-}
-
 // Room for what one read may bring.
 const CHUNK_LENGTH: usize = 65_536;
 
-fn chunk_buffer() -> [u8; CHUNK_LENGTH]
-    ensures { 65536 ≡ length result }
-{
-    [0; CHUNK_LENGTH]
-}
-
 // Room for all that the program can print.
 const TEXT_LENGTH: usize = 340_000;
-
-fn text_buffer() -> [u8; TEXT_LENGTH]
-    ensures { 340000 ≡ length result }
-{
-    [0; TEXT_LENGTH]
-}
 
 // The analyzer with these buffers, and its answer, printed at the start of the text.
 fn answer_with(input: &[u8], table: &mut [u8], faults: &mut [u8], text: &mut [u8]) -> usize
@@ -73,12 +54,12 @@ fn print<R: Print + Eprint>(rt: &R, input: &[u8], text: &mut [u8])
 
 // A read that fails is said on standard error, and nothing is answered.
 pub fn run<R: Input + Print + Eprint>(rt: &R) {
-    let mut input = input_buffer();
-    let mut chunk = chunk_buffer();
+    let mut input = [0u8; INPUT_LENGTH];
+    let mut chunk = [0u8; CHUNK_LENGTH];
     let mut reader = rt.reader();
     match input::read_all(&mut reader, &mut input, &mut chunk) {
         Ok(n) => {
-            let mut text = text_buffer();
+            let mut text = [0u8; TEXT_LENGTH];
             print(rt, &input[..n], &mut text);
         }
         Err(e) => fail(rt, "standard input", e),
