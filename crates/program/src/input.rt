@@ -22,21 +22,13 @@ fn short_length(total: usize) -> usize
     TOO_LONG + (total - TOO_LONG) % RECORD_LENGTH
 }
 
-// How many bytes of the next ones the input still takes.
-fn room_for(total: usize, count: usize) -> usize
-    requires { total ≤ 64040 }
-    ensures { (result ≤ count) × (total + result ≤ 64040) × (total + count ≤ 64040 → result ≡ count) }
-{
-    count.min(INPUT_LENGTH - total)
-}
-
 // Puts the next bytes behind the first ones of the input, as far as there is room.
 fn append_input(input: &mut [u8], total: usize, next: &[u8]) -> usize
     requires { (64040 ≤ length input.old) × (total ≤ 64040) × (length next.now ≤ 65536) }
     ensures { ((i : List ℕ) → StandsFor i (take total input.old) → StandsFor (i ++ next.now) (take result input.new)) × (result ≤ 64040) }
 {
     let n = next.len();
-    let m = room_for(total, n);
+    let m = n.min(INPUT_LENGTH - total);
     store::write(input, total, &next[..m]);
     short_length(total + n)
 }
