@@ -1,7 +1,7 @@
 // Replays stored tables through parts of the analyzer: a line for each case says what the part answered.
 #![tactic(auto)]
 
-use rules::limits::{MOST_RECORDS, RECORD_LENGTH, TABLE_LENGTH};
+use rules::limits::{FAULT_LENGTH, MOST_RECORDS, RECORD_LENGTH, TABLE_LENGTH};
 use rules::{LayoutError, Reply, Tally};
 use std::io::{Input, Print, Read};
 
@@ -35,10 +35,7 @@ fn print_scope<R: Print>(rt: &R, input: &[u8], faults: &mut [u8]) {
 fn print_order<R: Print>(rt: &R, input: &[u8], faults: &mut [u8], out: &mut [u8]) {
     replay_cases::fill(faults);
     replay_cases::fill(out);
-    if MOST_RECORDS < table::count(input) {
-        return;
-    }
-    if out.len() < TABLE_LENGTH {
+    if MOST_RECORDS < table::count(input) || out.len() < TABLE_LENGTH {
         return;
     }
     let (records, tally) = match decl_order::check_decl_identifiers(input, faults, out) {
@@ -48,15 +45,6 @@ fn print_order<R: Print>(rt: &R, input: &[u8], faults: &mut [u8], out: &mut [u8]
     print_faults(rt, tally, faults, b' ');
     replay_cases::print(rt, records as u64, b' ');
     replay_cases::print(rt, replay_cases::digest(out), b'\n');
-}
-
-// How many of the faults found a buffer of this length keeps.
-fn kept_faults(found: usize, length: usize) -> usize {
-    let room = length / rules::limits::FAULT_LENGTH;
-    if found < room {
-        return found;
-    }
-    room
 }
 
 // The lowest of passes 3 to 9 that finds faults, or 0, and its faults.
@@ -69,7 +57,7 @@ fn print_later<R: Print>(rt: &R, listed: &[u8], faults: &mut [u8]) {
             let total = faulty.total;
             replay_cases::print(rt, faulty.pass as u64, b' ');
             let tally = Tally {
-                kept: kept_faults(total, faults.len()),
+                kept: total.min(faults.len() / FAULT_LENGTH),
                 total,
             };
             print_faults(rt, tally, faults, b'\n');
@@ -84,10 +72,7 @@ fn print_later<R: Print>(rt: &R, listed: &[u8], faults: &mut [u8]) {
 // Passes 3 to 9 on the table that pass 2 lists.
 fn print_checks<R: Print>(rt: &R, input: &[u8], faults: &mut [u8], out: &mut [u8]) {
     replay_cases::fill(faults);
-    if MOST_RECORDS < table::count(input) {
-        return;
-    }
-    if out.len() < TABLE_LENGTH {
+    if MOST_RECORDS < table::count(input) || out.len() < TABLE_LENGTH {
         return;
     }
     let n = decl_order::check_decl_identifiers(input, faults, out).unwrap_or(0);
@@ -149,29 +134,20 @@ fn one_case<R: Print, S: Read>(
     faults: &mut [u8],
     out: &mut [u8],
 ) -> bool {
-    match replay_cases::next_case(reader, input) {
-        Some(case) => {
-            let size = case.input;
-            let room = case.faults;
-            let table = case.table;
-            if input.len() < size {
-                return false;
-            }
-            if faults.len() < room {
-                return false;
-            }
-            if out.len() < table {
-                return false;
-            }
-            if case.part == 5 {
-                print_whole(rt, &input[..size], &mut out[..table], &mut faults[..room]);
-                return true;
-            }
-            print_part(rt, case.part, &input[..size], &mut faults[..room], out);
-            true
-        }
-        None => false,
+    let Some(case) = replay_cases::next_case(reader, input) else {
+        return false;
+    };
+    if faults.len() < case.faults || out.len() < case.table {
+        return false;
     }
+    let input = &input[..case.input];
+    let faults = &mut faults[..case.faults];
+    if case.part == 5 {
+        print_whole(rt, input, &mut out[..case.table], faults);
+    } else {
+        print_part(rt, case.part, input, faults, out);
+    }
+    true
 }
 
 fn run<R: Input + Print>(rt: &R, input: &mut [u8], faults: &mut [u8], out: &mut [u8]) {

@@ -5,7 +5,7 @@
 
 pub mod buffers;
 
-ghost use Rattle.std.specs.Prelude.{◌<◌, IfSome, length};
+ghost use Rattle.std.specs.Prelude.{IfSome, length};
 ghost use Rattle.replay_cases.specs.Cases.{CaseFits};
 
 use rules::limits::TABLE_LENGTH;
@@ -26,9 +26,7 @@ pub fn next_case<R: Read>(reader: &mut R, input: &mut [u8]) -> Option<Case>
     ensures { IfSome result (CaseFits (length input.new)) }
 {
     let mut head = [0u8; 16];
-    if reader.read_exact(&mut head).is_err() {
-        return None;
-    }
+    reader.read_exact(&mut head).ok()?;
     let part = numbers::number4(&head, 0);
     let size = numbers::number4(&head, 4) as usize;
     let table = numbers::number4(&head, 8) as usize;
@@ -36,9 +34,7 @@ pub fn next_case<R: Read>(reader: &mut R, input: &mut [u8]) -> Option<Case>
     if input.len() < size || TABLE_LENGTH < table || TABLE_LENGTH < faults {
         return None;
     }
-    if reader.read_exact(&mut input[..size]).is_err() {
-        return None;
-    }
+    reader.read_exact(&mut input[..size]).ok()?;
     Some(Case {
         part,
         input: size,
@@ -47,30 +43,18 @@ pub fn next_case<R: Read>(reader: &mut R, input: &mut [u8]) -> Option<Case>
     })
 }
 
-fn wide(byte: u8) -> u64
-    ensures { result < 256 }
-{
-    byte as u64
-}
-
 // A digest of bytes, as the oracle makes it.
 pub fn digest(bytes: &[u8]) -> u64 {
-    let mut sum: u64 = 7;
-    let mut i: usize = 0;
-    while i < bytes.len() {
-        sum = (sum * 31 + wide(bytes[i])) % 0x1_0000_0000;
-        i += 1;
+    let mut sum = 7;
+    for byte in bytes {
+        sum = (sum * 31 + u64::from(*byte)) % 0x1_0000_0000;
     }
     sum
 }
 
 // Fills a buffer with 7, so that a byte written too many shows.
 pub fn fill(buffer: &mut [u8]) {
-    let mut i: usize = 0;
-    while i < buffer.len() {
-        buffer[i] = 7;
-        i += 1;
-    }
+    buffer.fill(7);
 }
 
 // A number and a byte behind it. A write that fails is let go, as the output then differs.
