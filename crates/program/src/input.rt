@@ -1,5 +1,5 @@
 // Standard input, read to its end into a buffer: a long one is shortened to a length that gets the same reply.
-ghost use Rattle.std.specs.Prelude.{◌≡◌, List, ◌++◌, ℕ, ◌+◌, ◌≤◌, IfOk, length, take};
+ghost use Rattle.std.specs.Prelude.{◌≡◌, List, ◌++◌, ℕ, ◌+◌, ◌<◌, ◌≤◌, IfOk, IfSome, length, take};
 ghost use Rattle.program.specs.Inputs.{short_length, StandsFor};
 
 use rules::limits::{RECORD_LENGTH, TABLE_LENGTH};
@@ -33,11 +33,12 @@ fn append_input(input: &mut [u8], total: usize, next: &[u8]) -> usize
     short_length(total + n)
 }
 
-// Reads to the reader's end. Returns how many bytes at the start of the input stand for what was read. The turns are bounded by a number
-// that no run uses up.
+// Reads to the reader's end. Returns how many bytes at the start of the input stand for what was read, where the chunk has room for a byte.
+// The turns are bounded by a number that no run uses up.
 pub fn read_all<R: Read>(reader: &mut R, input: &mut [u8], chunk: &mut [u8]) -> io::Result<usize>
     requires { (64040 ≤ length input.old) × (length chunk.old ≤ 65536) }
-    ensures { IfOk result (λ n. n ≤ 64040) }
+    ensures few { IfOk result (λ n. n ≤ 64040) }
+    ensures whole { IfOk result (λ n. 0 < length chunk.old → IfSome (R.remaining reader.old) (λ i. StandsFor i (take n input.new))) }
 {
     let mut total = 0;
     for _ in 0..u64::MAX {
