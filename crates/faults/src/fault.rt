@@ -11,11 +11,9 @@ pub fn single(code: u16, primary: Record) -> Fault
 {
     Fault {
         code,
-        secondary: 0,
         start: primary.start,
         end: primary.end,
-        start2: 0,
-        end2: 0,
+        ..Fault::default()
     }
 }
 
@@ -24,12 +22,10 @@ pub fn double(code: u16, primary: Record, secondary: Record) -> Fault
     ensures { result ≡ double code primary secondary }
 {
     Fault {
-        code,
         secondary: 1,
-        start: primary.start,
-        end: primary.end,
         start2: secondary.start,
         end2: secondary.end,
+        ..single(code, primary)
     }
 }
 

@@ -25,6 +25,7 @@ pub fn noted(before: Tally, buffer: &mut [u8], fault: Fault) -> Tally
 }
 
 // What was found at a place, noted.
+#[tactic(auto, unfolding(crate::specs::Notes::noted_all))]
 pub fn note_found(tally: Tally, buffer: &mut [u8], found: Option<Fault>) -> Tally
     requires { tally.total + 1 < 2 ^ 64 }
     ensures { log result buffer.new ≡ noted_all (log tally buffer.old) (option_to_list found) }
