@@ -33,34 +33,25 @@ fn write_table(listed: &[u8], expanded: &mut [u8], table: &mut [u8]) -> Option<R
     }
 }
 
-// With the small buffer.
-fn write_small(listed: &[u8], table: &mut [u8]) -> Option<Reply>
-    requires { (length (decode listed.now) ≤ 1600) × GroupsFirst (decode listed.now) }
-    ensures { Wrote 5120 (decode listed.now) table.old table.new result }
+// With a buffer of `N` bytes.
+fn write_in<const N: usize>(listed: &[u8], table: &mut [u8]) -> Option<Reply>
+    requires { (length (decode listed.now) ≤ 1600) × GroupsFirst (decode listed.now) × (N ≤ 64000) }
+    ensures { Wrote N (decode listed.now) table.old table.new result }
 {
-    let mut expanded = [0u8; SMALL_LENGTH];
+    let mut expanded = [0u8; N];
     write_table(listed, &mut expanded, table)
 }
 
-// With a buffer for 1,600 records, for which no inlined table is too long.
-fn write_large(listed: &[u8], table: &mut [u8]) -> Reply
-    requires { (length (decode listed.now) ≤ 1600) × GroupsFirst (decode listed.now) }
-    ensures { (f : List ℕ) → answered result table.new f ≡ by_size (inlined (decode listed.now)) table.old f }
-{
-    let mut expanded = [0u8; TABLE_LENGTH];
-    write_table(listed, &mut expanded, table).unwrap_or(Reply::Swollen)
-}
-
-// With the small buffer first where it is likely to do: a large one takes longer to clear than a small table to analyze.
+// With the small buffer first where it is likely to do: a large one takes longer to clear than a small table to analyze. For the large one,
+// of 1,600 records, no inlined table is too long.
 pub fn write_listed(listed: &[u8], table: &mut [u8]) -> Reply
     requires { (length (decode listed.now) ≤ 1600) × GroupsFirst (decode listed.now) }
     ensures { (f : List ℕ) → answered result table.new f ≡ by_size (inlined (decode listed.now)) table.old f }
 {
-    if FEW_RECORDS < table::count(listed) {
-        return write_large(listed, table);
+    if table::count(listed) <= FEW_RECORDS {
+        if let Some(reply) = write_in::<SMALL_LENGTH>(listed, table) {
+            return reply;
+        }
     }
-    match write_small(listed, table) {
-        Some(reply) => reply,
-        None => write_large(listed, table),
-    }
+    write_in::<TABLE_LENGTH>(listed, table).unwrap_or(Reply::Swollen)
 }
