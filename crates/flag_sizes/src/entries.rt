@@ -25,8 +25,8 @@ impl<'a> Iterator for Naming<'a> {
             if kinds::is_decl(table::kind(self.table, p)) {
                 return None;
             }
-            self.place = p + 1;
             if conditions::is_condition_on(self.table, self.flag, p) {
+                self.place = p + 1;
                 return Some(p);
             }
         }

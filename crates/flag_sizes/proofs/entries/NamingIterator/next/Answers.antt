@@ -1,5 +1,5 @@
 -- What comes is the first of what was left, and the others are left.
-use Rattle.std.proofs.Common.{refl, sym, ap, ◌∙◌, ◌≡◌, length, false}
+use Rattle.std.proofs.Common.{sym, ap, ◌∙◌, ◌≡◌, length, false}
 use native.Mathlib.Omega.{arith}
 use Rattle.rules.specs.Kinds.{is_decl}
 use Rattle.rules.specs.Table.{decode, at}
@@ -12,7 +12,7 @@ returns-then-is_decl-clause-steps c =
     let rs = decode c.args.self.now.table.now in
     let k = rw v.1 at c.kind.ensures in
     let nil = sym (naming-decl rs c.args.self.now.flag c.loop-p.p (rw (← k) (sym c.is_decl.ensures ∙ c.if-is_decl.true))) in
-    (v.3 ∙ nil, rw (v.0, v.1, v.2) nil)
+    let all = v.3 ∙ nil in (all, rw (v.0, v.1, v.2) all)
 
 pub returns-then-is_condition_on-clause-steps : goal.returns-then-is_condition_on-clause-steps
 returns-then-is_condition_on-clause-steps c =
@@ -35,11 +35,11 @@ loop-p-preserved c =
     let k = rw v.1 at c.kind.ensures in
     let inside : is_decl (at rs c.loop-p.p).kind ≡ false = rw (← k) (sym c.is_decl.ensures ∙ c.if-is_decl.false) in
     let miss = rw (v.1, v.2) at c.is_condition_on.ensures in
-    (refl, v.1, v.2, v.3 ∙ naming-miss rs c.args.self.now.flag c.loop-p.p (omega (arith, c.count-p-end.ensures)) inside (sym miss ∙ c.if-is_condition_on.false))
+    (v.0, v.1, v.2, v.3 ∙ naming-miss rs c.args.self.now.flag c.loop-p.p (omega (arith, c.count-p-end.ensures)) inside (sym miss ∙ c.if-is_condition_on.false))
 
 pub returns-clause-steps : goal.returns-clause-steps
 returns-clause-steps c =
     let v = c.loop-p.invariant in
     let rs = decode c.args.self.now.table.now in
     let nil = sym (naming-end rs c.args.self.now.flag c.loop-p.p (omega (arith, c.count-p-end.ensures))) in
-    (v.3 ∙ nil, rw (v.0, v.1, v.2) nil)
+    let all = v.3 ∙ nil in (all, rw (v.0, v.1, v.2) all)
