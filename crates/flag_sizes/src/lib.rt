@@ -94,9 +94,10 @@ fn mark_next(table: &[u8], place: usize, members: usize, marks: &mut [u16]) -> u
     ensures { (result ≡ members_start (decode table.now) (place + 1)) × ConditionsStamped (decode table.now) marks.new result }
 {
     let next = conditions::next_start(table, place, members);
-    if next != members {
-        mark_conditions(table, next, marks);
+    if next == members {
+        return members;
     }
+    mark_conditions(table, next, marks);
     next
 }
 
