@@ -20,16 +20,12 @@ fn first_size(table: &[u8], name: u16, place: usize) -> Option<usize>
 fn redundant_size(table: &[u8], place: usize, found: Option<usize>) -> Option<Fault>
     ensures { option_to_list result ≡ redundant_size (decode table.now) place found }
 {
-    match found {
-        Some(q) => {
-            let s = records::at(table, q);
-            if kinds::is_decl(s.kind) {
-                return None;
-            }
-            Some(faults::fault::double(codes::REDUNDANT_ARRAY_SIZE, s, records::at(table, place)))
-        }
-        None => None,
-    }
+    let q = search::members::inside(table, found)?;
+    Some(faults::fault::double(
+        codes::REDUNDANT_ARRAY_SIZE,
+        records::at(table, q),
+        records::at(table, place),
+    ))
 }
 
 pub fn at_place(table: &[u8], place: usize) -> Option<Fault>

@@ -47,12 +47,9 @@ pub fn check_field_identifiers(table: &[u8], names: &[u8], buffer: &mut [u8]) ->
     requires { Marked (decode table.now) FieldNames names.now }
     ensures { log result buffer.new ≡ logged buffer.old (pass3 (decode table.now)) }
 {
-    let n = table::count(table);
     let mut tally = faults::no_faults();
-    let mut p = 0;
-    while p < n {
+    for p in 0..table::count(table) {
         tally = note_at(table, names, p, tally, buffer);
-        p += 1;
     }
     tally
 }

@@ -16,19 +16,17 @@ fn enum_fault(table: &[u8], place: usize, found: Option<usize>) -> Option<Fault>
     ensures { option_to_list result ≡ enum_fault (decode table.now) place found }
 {
     let r = records::at(table, place);
-    match found {
-        Some(d) => {
-            let e = records::at(table, d);
-            if e.kind != kinds::ENUM {
-                return Some(faults::fault::double(codes::E35, r, e));
-            }
-            if has_member(table, Target::OuterTagOrDecl(r.third), d) {
-                return None;
-            }
-            Some(faults::fault::double(codes::E34, r, e))
-        }
-        None => Some(faults::fault::single(codes::E33, r)),
+    let Some(d) = found else {
+        return Some(faults::fault::single(codes::E33, r));
+    };
+    let e = records::at(table, d);
+    if e.kind != kinds::ENUM {
+        return Some(faults::fault::double(codes::E35, r, e));
     }
+    when(
+        !has_member(table, Target::OuterTagOrDecl(r.third), d),
+        faults::fault::double(codes::E34, r, e),
+    )
 }
 
 pub fn at_place(table: &[u8], starts: &[u16], place: usize) -> Option<Fault>

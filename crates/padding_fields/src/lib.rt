@@ -6,21 +6,17 @@ ghost use Rattle.std.specs.Option.{option_to_list};
 ghost use Rattle.rules.specs.Table.{decode};
 ghost use Rattle.rules.specs.PaddingFields.{not_after_array, pass9_at};
 
+use faults::when;
 use rules::{Fault, Target, codes};
 
 fn not_after_array(table: &[u8], place: usize, found: Option<usize>) -> Option<Fault>
     ensures { option_to_list result ≡ not_after_array (decode table.now) place found }
 {
-    let fault = faults::fault::single(codes::INVALID_PADDING_FIELD, records::at(table, place));
-    match found {
-        Some(q) => {
-            if table::kind(table, q) == kinds::ARRAY {
-                return None;
-            }
-            Some(fault)
-        }
-        None => Some(fault),
-    }
+    let follows_array = found.is_some_and(|q| table::kind(table, q) == kinds::ARRAY);
+    when(
+        !follows_array,
+        faults::fault::single(codes::INVALID_PADDING_FIELD, records::at(table, place)),
+    )
 }
 
 pub fn at_place(table: &[u8], place: usize) -> Option<Fault>

@@ -17,16 +17,8 @@ use rules::{Fault, Target};
 fn repeated(code: u16, table: &[u8], place: usize, found: Option<usize>) -> Option<Fault>
     ensures { option_to_list result ≡ repeated code (decode table.now) place found }
 {
-    match found {
-        Some(q) => {
-            let s = records::at(table, q);
-            if kinds::is_decl(s.kind) {
-                return None;
-            }
-            Some(faults::fault::double(code, records::at(table, place), s))
-        }
-        None => None,
-    }
+    let q = search::members::inside(table, found)?;
+    Some(faults::fault::double(code, records::at(table, place), records::at(table, q)))
 }
 
 // A fault at `place` that points at the nearest earlier record of its declaration that is what `target` looks for.
@@ -34,19 +26,6 @@ pub fn again(code: u16, table: &[u8], target: Target, place: usize) -> Option<Fa
     ensures { option_to_list result ≡ again code (decode table.now) target place }
 {
     repeated(code, table, place, search::nearest(table, target, place))
-}
-
-// What a search for an earlier record with the name or value of the one at `place` looks for.
-fn target_of(what: Compared, table: &[u8], place: usize) -> Target
-    ensures { result ≡ target_of what (compared_of what (at (decode table.now) place)) }
-{
-    match what {
-        Compared::FieldNames => Target::NameOrDecl(table::name(table, place)),
-        Compared::TagNames => Target::TagOrDecl(table::name(table, place)),
-        Compared::TagValues => Target::ValueOrDecl(records::at(table, place).one),
-        Compared::Sizes => Target::SizeOrDecl(table::second(table, place)),
-        Compared::ElementSizes => Target::ElementSizeOrDecl(table::second(table, place)),
-    }
 }
 
 // As `again`, for what is compared of the record at `place`, without a search where the mark is 0.
@@ -63,5 +42,5 @@ pub fn again_marked(
     if marks::mark_at(marks, place) == 0 {
         return None;
     }
-    again(code, table, target_of(what, table, place), place)
+    again(code, table, what.target(table, place), place)
 }

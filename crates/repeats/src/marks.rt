@@ -1,8 +1,9 @@
 // Marks of the records that might repeat an earlier one of their declaration, so that the others need no search.
 ghost use Rattle.std.specs.Prelude.{◌≡◌, ◌+◌, ◌<◌, ◌≤◌, length, get_or};
 ghost use Rattle.rules.specs.Table.{decode, at};
-ghost use Rattle.repeats.specs.Marks.{selects, compared_of, Marked, Stamped};
+ghost use Rattle.repeats.specs.Marks.{selects, compared_of, target_of, Marked, Stamped};
 
+use rules::Target;
 use rules::limits::MOST_RECORDS;
 use table::{DIVISOR, REMAINDERS};
 
@@ -24,29 +25,42 @@ pub enum Compared {
 // What is compared is as long as a value; names have two bytes.
 const WIDE_DIVISOR: u64 = DIVISOR as u64;
 
-// Whether records of `kind` have what is compared.
-fn selects(what: Compared, kind: u8) -> bool
-    ensures { result ≡ selects what kind }
-{
-    match what {
-        Compared::FieldNames => kinds::is_named_field(kind),
-        Compared::TagNames => kinds::is_tag(kind),
-        Compared::TagValues => kinds::is_value(kind),
-        Compared::Sizes => kinds::is_size_or_count(kind),
-        Compared::ElementSizes => kind == kinds::ELEMENT_SIZE,
+impl Compared {
+    // Whether records of `kind` have what is compared.
+    fn selects(self, kind: u8) -> bool
+        ensures { result ≡ selects self kind }
+    {
+        match self {
+            Compared::FieldNames => kinds::is_named_field(kind),
+            Compared::TagNames => kinds::is_tag(kind),
+            Compared::TagValues => kinds::is_value(kind),
+            Compared::Sizes => kinds::is_size_or_count(kind),
+            Compared::ElementSizes => kind == kinds::ELEMENT_SIZE,
+        }
     }
-}
 
-// What is compared of the record at `place`.
-fn compared_at(what: Compared, table: &[u8], place: usize) -> u64
-    ensures { result ≡ compared_of what (at (decode table.now) place) }
-{
-    match what {
-        Compared::FieldNames => table::name(table, place) as u64,
-        Compared::TagNames => table::name(table, place) as u64,
-        Compared::TagValues => records::at(table, place).one,
-        Compared::Sizes => table::second(table, place) as u64,
-        Compared::ElementSizes => table::second(table, place) as u64,
+    // What is compared of the record at `place`.
+    fn value_at(self, table: &[u8], place: usize) -> u64
+        ensures { result ≡ compared_of self (at (decode table.now) place) }
+    {
+        match self {
+            Compared::FieldNames | Compared::TagNames => u64::from(table::name(table, place)),
+            Compared::TagValues => table::one(table, place),
+            Compared::Sizes | Compared::ElementSizes => u64::from(table::second(table, place)),
+        }
+    }
+
+    // What a search for an earlier record with the name or value of the one at `place` looks for.
+    pub(crate) fn target(self, table: &[u8], place: usize) -> Target
+        ensures { result ≡ target_of self (compared_of self (at (decode table.now) place)) }
+    {
+        match self {
+            Compared::FieldNames => Target::NameOrDecl(table::name(table, place)),
+            Compared::TagNames => Target::TagOrDecl(table::name(table, place)),
+            Compared::TagValues => Target::ValueOrDecl(table::one(table, place)),
+            Compared::Sizes => Target::SizeOrDecl(table::second(table, place)),
+            Compared::ElementSizes => Target::ElementSizeOrDecl(table::second(table, place)),
+        }
     }
 }
 
@@ -54,10 +68,7 @@ fn compared_at(what: Compared, table: &[u8], place: usize) -> u64
 pub fn mark_at(marks: &[u8], place: usize) -> u8
     ensures { result ≡ get_or marks.now place 1 }
 {
-    if place < marks.len() {
-        return marks[place];
-    }
-    1
+    marks.get(place).copied().unwrap_or(1)
 }
 
 // One place: a zero where no earlier record of the declaration left its stamp for the same remainder.
@@ -73,7 +84,7 @@ fn mark_place(
     ensures { Marked (decode table.now) what marks.new × Stamped (decode table.now) what seen.new result (place + 1) }
 {
     let k = table::kind(table, place);
-    if !selects(what, k) {
+    if !what.selects(k) {
         // A choice of two numbers compiles to no branch; one on where declarations begin would be mispredicted often.
         return if kinds::is_decl(k) {
             (place + 1) as u16
@@ -81,7 +92,7 @@ fn mark_place(
             stamp
         };
     }
-    let h = (compared_at(what, table, place) % WIDE_DIVISOR) as usize;
+    let h = (what.value_at(table, place) % WIDE_DIVISOR) as usize;
     if seen[h] == stamp {
         return stamp;
     }
@@ -96,10 +107,8 @@ fn mark_places(table: &[u8], what: Compared, count: usize, seen: &mut [u16], mar
     ensures { Marked (decode table.now) what marks.new }
 {
     let mut stamp = 0;
-    let mut p = 0;
-    while p < count {
+    for p in 0..count {
         stamp = mark_place(table, what, stamp, p, seen, marks);
-        p += 1;
     }
 }
 

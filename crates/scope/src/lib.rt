@@ -16,12 +16,10 @@ pub fn at_place(table: &[u8], starts: &[u16], place: usize) -> Option<Fault>
     if !kinds::is_named_decl(table::kind(table, place)) {
         return None;
     }
-    match declarations::earlier(table, starts, place) {
-        Some(q) => Some(faults::fault::double(
-            codes::DUPLICATE_DECL_IDENTIFIER,
-            records::at(table, place),
-            records::at(table, q),
-        )),
-        None => None,
-    }
+    let q = declarations::earlier(table, starts, place)?;
+    Some(faults::fault::double(
+        codes::DUPLICATE_DECL_IDENTIFIER,
+        records::at(table, place),
+        records::at(table, q),
+    ))
 }

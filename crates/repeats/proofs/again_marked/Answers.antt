@@ -9,4 +9,4 @@ returns-then-mark_at-eq0 c =
 
 pub returns : goal.returns
 returns c =
-    rw (← c.target_of.ensures) c.again.ensures
+    rw (← c.target.ensures) c.again.ensures

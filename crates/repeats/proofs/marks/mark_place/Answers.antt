@@ -17,7 +17,7 @@ returns-else-is_decl c =
 
 pub returns-then-seen-h : goal.returns-then-seen-h
 returns-then-seen-h c =
-    (c.requires.3, stamped-one _ _ _ _ _ _ c.requires.4 (rw (← c.kind-k.ensures) (sym c.selects.ensures ∙ c.if-not-selects.false)) (rw (← c.compared_at.ensures) c.if-seen-h.true) (λ j h. h))
+    (c.requires.3, stamped-one _ _ _ _ _ _ c.requires.4 (rw (← c.kind-k.ensures) (sym c.selects.ensures ∙ c.if-not-selects.false)) (rw (← c.value_at.ensures) c.if-seen-h.true) (λ j h. h))
 
 pub shape_of-seen : goal.shape_of-seen
 shape_of-seen c = search rules
@@ -27,6 +27,6 @@ shape_of-marks c = search rules
 
 pub returns : goal.returns
 returns c =
-    let h : ℕ = c.compared_at.result % 4093 in
+    let h : ℕ = c.value_at.result % 4093 in
     let fits : h < length c.args.seen.now = search rules in
-    (marked-one _ _ _ _ c.requires.3 (new-value _ _ _ _ _ c.requires.4 (rw (← c.compared_at.ensures) c.if-seen-h.false)), stamped-one _ _ _ c.args.seen.now _ _ c.requires.4 (rw (← c.kind-k.ensures) (sym c.selects.ensures ∙ c.if-not-selects.false)) (rw (← c.compared_at.ensures) (get_or-set_same c.args.seen.now h _ 0 fits)) (λ j e. set-kept c.args.seen.now h j _ fits e))
+    (marked-one _ _ _ _ c.requires.3 (new-value _ _ _ _ _ c.requires.4 (rw (← c.value_at.ensures) c.if-seen-h.false)), stamped-one _ _ _ c.args.seen.now _ _ c.requires.4 (rw (← c.kind-k.ensures) (sym c.selects.ensures ∙ c.if-not-selects.false)) (rw (← c.value_at.ensures) (get_or-set_same c.args.seen.now h _ 0 fits)) (λ j e. set-kept c.args.seen.now h j _ fits e))
