@@ -35,7 +35,7 @@ impl VisitProgress {
         ensures { (self.new.listed ≡ self.old.listed) × (log self.new.tally buffer.new ≡ noted (log self.old.tally buffer.old) (single code (at (decode table.now) place))) }
     {
         let f = faults::fault::single(code, records::at(table, place));
-        self.tally = faults::notes::noted(self.tally, buffer, f);
+        faults::notes::note(&mut self.tally, buffer, f);
     }
 
     // Lists `decl`.

@@ -1,4 +1,4 @@
-// Faults noted in the fault buffer, where the tally goes in and comes back by value.
+// Faults noted in the fault buffer.
 ghost use Rattle.std.specs.Prelude.{◌≡◌, ◌+◌, ◌^◌, ◌<◌};
 ghost use Rattle.std.specs.Option.{option_to_list};
 ghost use Rattle.rules.specs.Faults.{log};
@@ -22,6 +22,14 @@ pub fn noted(before: Tally, buffer: &mut [u8], fault: Fault) -> Tally
         };
     }
     Tally { total, ..before }
+}
+
+// The same, where the tally is lent and changed where it is.
+pub fn note(tally: &mut Tally, buffer: &mut [u8], fault: Fault)
+    requires { tally.old.total + 1 < 2 ^ 64 }
+    ensures { log tally.new buffer.new ≡ noted (log tally.old buffer.old) fault }
+{
+    *tally = noted(*tally, buffer, fault);
 }
 
 // What was found at a place, noted.

@@ -44,7 +44,7 @@ pub record Pushing (rs : List Record) (env₀ : List ℕ) (p : ℕ) (env : List 
 
 module _ {rs : List Record} {env₀ : List ℕ} {p : ℕ} {env : List ℕ} {i : ℕ} (h : Pushing rs env₀ p env i) where
   module _ (l : i < length rs) where
-    pub push-fits : (at rs i).kind ≡ 10 → length env₀ + length (constraints_from rs p) ≤ 1600 → length env < 1600
+    pub push-fits : {m : ℕ} → (at rs i).kind ≡ 10 → length env₀ + length (constraints_from rs p) ≤ m → length env < m
     push-fits e f =
         omega (arith, simp length-append at (ap length h.so_far), ap length (more-constraint rs (length rs) i l e))
 

@@ -69,23 +69,22 @@ fn under<F: Fn(Record, Record) -> Inlined>(table: &[u8], env: &[u16], r: Record,
     }
 }
 
-// `r` under the constraints on the stack.
-pub fn inlined_record(table: &[u8], env: &Stack, r: Record) -> Inlined
+// `r` under the constraints at the places of `env`.
+pub fn inlined_record(table: &[u8], env: &[u16], r: Record) -> Inlined
     ensures { result ≡ inlined_record (decode table.now) env.now r }
 {
-    let places = env.as_slice();
     if r.kind == kinds::SCALAR {
-        under(table, places, r, fixed_scalar)
+        under(table, env, r, fixed_scalar)
     } else if r.kind == kinds::TYPEDEF {
-        under(table, places, r, fixed_enum)
+        under(table, env, r, fixed_enum)
     } else {
         Inlined { made: r, fit: true }
     }
 }
 
 // Puts the places of the constraints of the field before `place` on the stack.
-pub fn push_constraints(table: &[u8], place: usize, env: &mut Stack)
-    requires { (length (decode table.now) ≤ 1600) × (length env.old + length (constraints_from (decode table.now) place) ≤ 1600) }
+pub fn push_constraints<const N: usize>(table: &[u8], place: usize, env: &mut Stack<N>)
+    requires { (length (decode table.now) ≤ 1600) × (length env.old + length (constraints_from (decode table.now) place) ≤ N) }
     ensures { env.new ≡ env.old ++ constraints_from (decode table.now) place }
 {
     for p in place..table::count(table) {

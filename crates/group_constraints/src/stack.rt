@@ -1,30 +1,29 @@
 // The stack of the places of constraints.
 ghost use Rattle.std.specs.Prelude.{◌≡◌, ◌<◌, ◌≤◌, List, ℕ, [], ◌∷◌, ◌++◌, length, take};
 
-use rules::limits::MOST_RECORDS;
 use std::marker::Model;
 
-// The places of the constraints that hold, the outermost first: as many as there are places in a table.
+// The places of the constraints that hold, the outermost first: at most N.
 #[derive(Drop)]
-pub struct Stack {
-    places: [u16; MOST_RECORDS],
+pub struct Stack<const N: usize> {
+    places: [u16; N],
     len: usize,
 }
 
-impl Model for Stack {
+impl<const N: usize> Model for Stack<N> {
     ghost Value = { List ℕ };
 
     ghost view = { λ s. take s.len s.places };
 
-    ghost invariant = { λ s. s.len ≤ 1600 };
+    ghost invariant = { λ s. s.len ≤ N };
 }
 
-impl Stack {
+impl<const N: usize> Stack<N> {
     pub fn new() -> Self
         ensures { result ≡ [] }
     {
         Stack {
-            places: [0; MOST_RECORDS],
+            places: [0; N],
             len: 0,
         }
     }
@@ -35,14 +34,14 @@ impl Stack {
         self.len // places
     }
 
-    pub(crate) fn as_slice(&self) -> &[u16]
+    pub fn as_slice(&self) -> &[u16]
         ensures { result.now ≡ self.now }
     {
         &self.places[..self.len]
     }
 
     pub(crate) fn push(&mut self, place: u16)
-        requires { length self.old < 1600 }
+        requires { length self.old < N }
         ensures { self.new ≡ self.old ++ place ∷ [] }
     {
         self.places[self.len] = place;

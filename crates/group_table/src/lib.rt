@@ -11,6 +11,7 @@ use group_constraints::stack::Stack;
 use group_constraints::{inlined_record, push_constraints};
 use kinds::{is_constraint_or_condition, is_kept};
 use records::record;
+use rules::limits::MOST_RECORDS;
 use rules::{FieldKey, Inlined};
 
 // How many records are written, and the key of the first that is not fit.
@@ -46,7 +47,7 @@ fn expand(
     targets: &[u16],
     sizes: &[u16],
     decl: usize,
-    env: &mut Stack,
+    env: &mut Stack<MOST_RECORDS>,
     out: &mut [u8],
     progress: ExpandProgress,
 ) -> ExpandProgress
@@ -72,7 +73,7 @@ fn expand(
                 env.truncate(top);
             }
         } else if !bound {
-            s = add(out, s, inlined_record(table, env, record(table, p)));
+            s = add(out, s, inlined_record(table, env.as_slice(), record(table, p)));
         }
     }
     s

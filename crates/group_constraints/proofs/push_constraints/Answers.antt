@@ -5,18 +5,18 @@ use Rattle.group_constraints.proofs.push_constraints.Goals as goal
 use Rattle.group_constraints.proofs.push_constraints.Goals.{then-k-eq-CONSTRAINT, else-k-eq-CONSTRAINT+else-k-ne-CONDITION}
 
 pub push-requires : goal.push-requires
-push-requires c = push-fits c.loop-p.invariant (omega arith) (sym c.kind-k.ensures ∙ c.if-k-eq-CONSTRAINT.true) c.requires.1
+push-requires g c = push-fits c.loop-p.invariant (omega arith) (sym c.kind-k.ensures ∙ c.if-k-eq-CONSTRAINT.true) c.requires.1
 
 pub returns-then-k-ne-CONDITION : goal.returns-then-k-ne-CONDITION
-returns-then-k-ne-CONDITION c =
+returns-then-k-ne-CONDITION g c =
     push-stop c.loop-p.invariant (omega arith) (λ e. c.if-k-eq-CONSTRAINT.false (c.kind-k.ensures ∙ e)) (λ e. c.if-k-ne-CONDITION.true (c.kind-k.ensures ∙ e))
 
 pub loop-p-preserved : goal.loop-p-preserved
-loop-p-preserved c =
+loop-p-preserved g c =
     elim c.if-k-eq-CONSTRAINT.branch [
       | then-k-eq-CONSTRAINT w ↦ rw (w.env-is, w.push.ensures) (push-one c.loop-p.invariant (omega arith) (sym c.kind-k.ensures ∙ w.if-k-eq-CONSTRAINT.true))
       | else-k-eq-CONSTRAINT+else-k-ne-CONDITION w ↦ rw w.env-is (push-none c.loop-p.invariant (omega arith) (sym c.kind-k.ensures ∙ w.if-k-ne-CONDITION.false))
     ]
 
 pub returns : goal.returns
-returns c = push-end c.loop-p.invariant (omega arith)
+returns g c = push-end c.loop-p.invariant (omega arith)

@@ -4,4 +4,4 @@ use Rattle.group_constraints.proofs.Laws.{Pushing}
 use Rattle.group_constraints.proofs.push_constraints.Given as goal
 
 abbrev pub invariant-loop-p : goal.invariant-loop-p
-invariant-loop-p l = Pushing (decode l.table) l.initial.env l.place l.env l.p
+invariant-loop-p g l = Pushing (decode l.table) l.initial.env l.place l.env l.p
