@@ -8,7 +8,7 @@ ghost use Rattle.rules.specs.Widths.{bit_width, scalar_max};
 pub fn bit_width(value: u64) -> u64
     ensures { result ≡ bit_width value }
 {
-    64 - (u64::leading_zeros(value) as u64)
+    u64::from(u64::BITS - value.leading_zeros())
 }
 
 // Return the maximum value for a scalar value.
@@ -16,7 +16,7 @@ pub fn scalar_max(width: u64) -> u64
     ensures { result ≡ scalar_max width }
 {
     if width >= 64 {
-        0xffff_ffff_ffff_ffff
+        u64::MAX
     } else {
         (1u64 << width) - 1
     }
