@@ -1,16 +1,17 @@
 -- Laws of the ranges that hold a value: their number, whatever their order. Assumes nothing.
 use Prim.Native.Nat.{ℕ, zero, suc, ◌+◌, ◌<◌, ◌≤◌}
 use mathlib.Core.Path.{◌≡◌, refl, sym, ap, ◌∙◌}
-use mathlib.Core.List.{List, [], ◌∷◌, ◌++◌, map, append-nil}
+use mathlib.Core.List.{List, [], ◌∷◌, ◌++◌, append-nil}
 use mathlib.Core.Bool.{Bool, true, false, cond, ◌&&◌}
 use native.Mathlib.Omega.{arith}
 use native.Mathlib.Decide.{dec_lt}
-use native.Mathlib.Nat.{le_refl, not-suc-le-zero, le_of_suc-le-suc, add-zero}
+use native.Mathlib.Nat.{le_refl, add-zero}
 use lib.Dec.{eqb, leb}
 use lib.ListN.{length, get_or, length-map}
 use Rattle.std.specs.Prelude.{if◌then◌else◌}
 use Rattle.std.specs.List.{count_by, zip, AllPairs}
 use Rattle.std.specs.List.Sorted.{IsNonDecreasing}
+use Rattle.std.proofs.lemmas.List.{get_or-map}
 use Rattle.std.proofs.lemmas.List.Sums.{sum_by-cons, sum_by-append}
 use Rattle.rules.specs.Choice.{when}
 use Rattle.rules.specs.Table.{at}
@@ -48,18 +49,13 @@ module _ (f : ℕ → Bool) (le : ℕ → ℕ → Bool) where
   unfolding sorted
   count-sorted xs = count-inserted [] xs ∙ omega arith
 
-get_d_map : (g : ℕ → ℕ) (l : List ℕ) (i d : ℕ) → i < length l → get_or (map g l) i d ≡ g (get_or l i 0)
-get_d_map g [] i d h = absurd (not-suc-le-zero h)
-get_d_map g (x ∷ xs) zero d h = refl
-get_d_map g (x ∷ xs) (suc i) d h = get_d_map g xs i d (le_of_suc-le-suc h)
-
 module _ (rs : List Record) where
   lows-in-order : (qs : List ℕ) → AllPairs (λ x y. before_at rs x y ≡ true) qs → IsNonDecreasing (lows_of rs qs)
   lows-in-order qs o i j d h k = go (dec_lt i j) (omega (arith, length-map qs (λ q. lesser (at rs q))))
     where
       go : Dec (i < j) → j < length qs → get_or (lows_of rs qs) i d ≤ get_or (lows_of rs qs) j d
       go (yes l) m =
-          rw (get_d_map (λ q. lesser (at rs q)) qs i d (omega arith), get_d_map (λ q. lesser (at rs q)) qs j d m)
+          rw (get_or-map (λ q. lesser (at rs q)) qs i 0 d (omega arith), get_or-map (λ q. lesser (at rs q)) qs j 0 d m)
           (before-low (at rs (get_or qs i 0)) (at rs (get_or qs j 0)) (o i j 0 l m))
       go (no l) m = let e : i ≡ j = omega arith in rw e (le_refl _)
 
