@@ -1,7 +1,7 @@
--- `size_fields::starts::set_starts` meets its contract: the starts that are known are right. Assumes nothing.
+-- `size_fields::starts::Kept::set_starts` meets its contract: the starts that are known are right. Assumes nothing.
 use native.Mathlib.Omega.{arith}
 use Rattle.size_fields.proofs.starts.Laws.{later-within}
-use Rattle.size_fields.proofs.starts.set_starts.Goals as goal
+use Rattle.size_fields.proofs.starts.Kept.set_starts.Goals as goal
 
 pub set_start-requires : goal.set_start-requires
 set_start-requires c =
