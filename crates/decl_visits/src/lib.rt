@@ -14,7 +14,7 @@ use decl_references::field_references::field_reference;
 use decl_references::{own_reference, root_reference};
 use rules::{Reference, Tally, codes};
 
-// The marks of declarations. One that is listed has the mark 2.
+// The marks of declarations. They stay numbers, as the rules' `State` has them: each clause would have to map an enum's.
 const UNVISITED: u8 = 0;
 
 const VISITING: u8 = 1;
