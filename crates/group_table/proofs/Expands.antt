@@ -176,7 +176,7 @@ module _ {rs : List Record} {targets sizes : List ℕ} {d : ℕ} {env₀ : List 
   walk_start =
       let i = y.decl.1 in
       let l = y.decl.0 in
-      let z = y.sized.right d l i in
+      let z = y.known.sized.right d l i in
       let r = y.room in
       record {
         past = omega arith;
@@ -231,14 +231,14 @@ module _ {rs : List Record} {targets sizes : List ℕ} {d : ℕ} {env₀ : List 
 
         found : decl_named rs (at rs p).second ≡ Some g
         unfolding g
-        found = y.resolved.right p l (eq-eqb _ _ k34)
+        found = y.known.resolved.right p l (eq-eqb _ _ k34)
 
         before : g < d
-        before = group-before rs y.groups p l (eq-eqb _ _ k34) w.here found
+        before = group-before rs y.known.groups p l (eq-eqb _ _ k34) w.here found
 
         pub group-in : get_or targets p 0 < length sizes
         unfolding g
-        group-in = let h = named_in rs (at rs p).second found in let m = y.sized.long in omega arith
+        group-in = let h = named_in rs (at rs p).second found in let m = y.known.sized.long in omega arith
 
         size-found : size_at targets sizes rs p ≡ get_or sizes g 0
         unfolding size_at g
@@ -261,7 +261,7 @@ module _ {rs : List Record} {targets sizes : List ℕ} {d : ℕ} {env₀ : List 
             omega arith
 
         pub call-push : (length rs ≤ 1600) × (length env + length (own_constraints rs p) ≤ 1600)
-        call-push = let h = own-fits in (y.few, omega arith)
+        call-push = let h = own-fits in (y.known.few, omega arith)
 
         -- it has no fields
         pub turn-empty : get_or sizes (get_or targets p 0) 0 ≡ 0 → Walking rs targets sizes d env₀ out₀ a env out s b (p + 1)
@@ -270,7 +270,7 @@ module _ {rs : List Record} {targets sizes : List ℕ} {d : ℕ} {env₀ : List 
             let q = size-found in
             let v = before in
             let none : (k : ℕ) → d ≤ k → inlined_field (expand rs k) rs (env₀) p ≡ [] =
-            λ k h. field-group (expand rs k) (env₀) ∙ expand-none rs targets sizes y.groups y.resolved y.sized k (env₀ ++ own_constraints rs p) g (omega arith) (named_in rs (at rs p).second found) (named-declares rs (at rs p).second found) z in
+            λ k h. field-group (expand rs k) (env₀) ∙ expand-none rs targets sizes y.known.groups y.known.resolved y.known.sized k (env₀ ++ own_constraints rs p) g (omega arith) (named_in rs (at rs p).second found) (named-declares rs (at rs p).second found) z in
             walk-next (λ k h. sym (rw (none k h))) (omega arith) refl refl
 
         -- its fields are written
@@ -280,10 +280,7 @@ module _ {rs : List Record} {targets sizes : List ℕ} {d : ℕ} {env₀ : List 
           call-expand e = (
             (let h = before in omega arith),
             record {
-              few = y.few;
-              groups = y.groups;
-              resolved = y.resolved;
-              sized = y.sized;
+              known = y.known;
               decl = (named_in rs (at rs p).second found, named-declares rs (at rs p).second found);
               spare = λ x i h. (let j = here-past rs d y.decl.1 x h before in let q = simp length-append at (ap length pm) in let r = own-fits in let v = w.past in omega arith);
               room = (let h = size-left in let q = size-found in let r = y.room in omega arith);

@@ -57,12 +57,9 @@ module _ {rs : List Record} {targets sizes out₀ : List ℕ} (y : RoomForInline
         pub call-rest : ExpandReady rs targets sizes d env out₁ s₁
         call-rest =
             record {
-              few = y.few;
-              groups = y.groups;
-              resolved = y.resolved;
-              sized = y.sized;
+              known = y.known;
               decl = (l, kept-decl (at rs d).kind i);
-              spare = λ e h q. rw w.bare (let a = y.few in omega arith);
+              spare = λ e h q. rw w.bare (let a = y.known.few in omega arith);
               room = (let a = left in let b = one_more in omega arith);
               wide = (let a = left in let b = one_more in let c = w.out-long in let e = y.wide in omega arith);
             }

@@ -41,20 +41,21 @@ added_all o (x ∷ xs) = added_all (added o x) xs
 abbrev pub empty : ExpandProgress
 empty = record { count = 0; unfit = None }
 
--- what the whole table needs, with its targets and sizes known
-pub record RoomForInlined (rs : List Record) (targets sizes out : List ℕ) : Type 0 where
+-- what is known of a table once its groups are measured
+pub record Measured (rs : List Record) (targets sizes : List ℕ) : Type 0 where
   pub few : length rs ≤ 1600
   pub groups : GroupsFirst rs
   pub resolved : TargetsKnown rs targets (length rs)
   pub sized : Sized rs targets sizes (length rs)
+
+-- what the whole table needs
+pub record RoomForInlined (rs : List Record) (targets sizes out : List ℕ) : Type 0 where
+  pub known : Measured rs targets sizes
   pub wide : 40 * total_size sizes rs (length rs) ≤ length out
 
 -- what the declaration at d needs, with the constraints env on the stack, which has place for those of the records before it, too
 pub record ExpandReady (rs : List Record) (targets sizes : List ℕ) (d : ℕ) (env : List ℕ) (out : List ℕ) (a : ExpandProgress) : Type 0 where
-  pub few : length rs ≤ 1600
-  pub groups : GroupsFirst rs
-  pub resolved : TargetsKnown rs targets (length rs)
-  pub sized : Sized rs targets sizes (length rs)
+  pub known : Measured rs targets sizes
   pub decl : (d < length rs) × (is_decl (at rs d).kind ≡ true)
   pub spare : (e : ℕ) → e ≤ length rs → nearest (holds_at rs Decl) e ≡ Some d → length env + e ≤ 1600
   pub room : a.count + get_or sizes d 0 ≤ 1600

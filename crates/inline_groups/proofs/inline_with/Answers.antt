@@ -16,10 +16,7 @@ write_all-requires c =
     let e = c.total-n.ensures in
     record {
       room_for_inlined = record {
-        few = c.requires.table_len_bound.0;
-        groups = c.requires.groups_first;
-        resolved = c.fill.ensures;
-        sized = c.measure.ensures;
+        known = record { few = c.requires.table_len_bound.0; groups = c.requires.groups_first; resolved = c.fill.ensures; sized = c.measure.ensures };
         wide = rw e at c.if-out-n.false;
       };
       table_bound = rw e at c.if-n-gt-MOST_RECORDS.false;
