@@ -1,4 +1,4 @@
-// The places that entries come from: one walk over each kind of them serves who counts and who writes.
+// The places that entries come from: the conditions that name a flag, and the entries that stand already.
 ghost use Rattle.std.specs.Iterator.{YieldsFirst, item_count};
 ghost use Rattle.rules.specs.Table.{decode};
 ghost use Rattle.flag_sizes.specs.Places.{naming_from, standing_from};
