@@ -49,18 +49,7 @@ fn range_found(table: &[u8], found: Option<usize>) -> Record
 {
     match found {
         Some(q) => records::at(table, q),
-        None => Record {
-            kind: 0,
-            marks: 0,
-            name: 0,
-            second: 0,
-            third: 0,
-            one: 0,
-            two: 0,
-            key: 0,
-            start: 0,
-            end: 0,
-        },
+        None => Record::default(),
     }
 }
 

@@ -20,15 +20,9 @@ fn entry_of(table: &[u8], place: usize) -> Record
     let condition = records::at(table, place);
     Record {
         kind: kinds::FLAG_ENTRY,
-        marks: 0,
         name: field.name,
-        second: 0,
-        third: 0,
         one: condition.one,
-        two: 0,
-        key: 0,
-        start: 0,
-        end: 0,
+        ..Record::default()
     }
 }
 
@@ -38,15 +32,11 @@ fn flag_of(r: Record) -> Record
 {
     Record {
         kind: kinds::FLAG,
-        marks: 0,
         name: r.name,
-        second: 0,
-        third: 0,
-        one: 0,
-        two: 0,
         key: r.key,
         start: r.start,
         end: r.end,
+        ..Record::default()
     }
 }
 

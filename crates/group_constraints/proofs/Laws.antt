@@ -4,14 +4,15 @@ use Prim.Native.Nat.{ℕ, suc, zero, ◌+◌, ◌-◌, ◌<◌, ◌≤◌}
 use mathlib.Core.Path.{◌≡◌, refl, sym, ap, ◌∙◌}
 use mathlib.Core.List.{List, [], ◌∷◌, ◌++◌, append_assoc, append-nil}
 use native.Mathlib.Omega.{arith}
+use native.Mathlib.Numerals.{add-one}
 use borrow.Author.Tests.{eq-eqb, ne_eqb}
-use lib.ListN.{length, take}
-use Rattle.std.proofs.Common.{find, reverse, get_or, length-append, Bool, true, false, MatchOption}
+use lib.ListN.{length, take, set}
+use Rattle.std.proofs.Common.{find, reverse, get_or, Bool, true, false, MatchOption}
 use Rattle.std.proofs.lemmas.List.{reverse-append}
 use Rattle.rules.specs.Table.{at}
 use Rattle.rules.specs.Places.{nearest}
 use lib.Dec.{eqb}
-use lib.Seq.{take-suc, take-length}
+use lib.Seq.{take-suc, take-suc-set, take-length}
 use Rattle.rules.specs.InlineGroups.{entry_at, kept, fixed_scalar, fixed_enum, lookup, under, inlined_record, constraints}
 use Rattle.rules.specs.declared.Record.{Record}
 use Rattle.rules.specs.declared.Inlined.{Inlined}
@@ -37,28 +38,41 @@ module _ (rs : List Record) (n p : ℕ) where
   unfolding constraints
   more-end h = rw (left-none n p h)
 
--- ---- the stack at place i, and the constraints that are still to come
+-- ---- the first m places of the buffer at place i, and the constraints that are still to come
 
-pub record Pushing (rs : List Record) (env₀ : List ℕ) (p : ℕ) (env : List ℕ) (i : ℕ) : Type 0 where
-  pub so_far : env₀ ++ constraints_from rs p ≡ env ++ constraints_from rs i
+pub record Pushing (rs : List Record) (env₀ : List ℕ) (n p : ℕ) (env : List ℕ) (m i : ℕ) : Type 0 where
+  pub so_far : take n env₀ ++ constraints_from rs p ≡ take m env ++ constraints_from rs i
+  pub count : n + length (constraints_from rs p) ≡ m + length (constraints_from rs i)
 
-module _ {rs : List Record} {env₀ : List ℕ} {p : ℕ} {env : List ℕ} {i : ℕ} (h : Pushing rs env₀ p env i) where
+module _ {rs : List Record} {env₀ : List ℕ} {n p : ℕ} {env : List ℕ} {m i : ℕ} (h : Pushing rs env₀ n p env m i) where
   module _ (l : i < length rs) where
-    pub push-fits : {m : ℕ} → (at rs i).kind ≡ 10 → length env₀ + length (constraints_from rs p) ≤ m → length env < m
-    push-fits e f =
-        omega (arith, simp length-append at (ap length h.so_far), ap length (more-constraint rs (length rs) i l e))
+    pub push-fits : {k : ℕ} → (at rs i).kind ≡ 10 → n + length (constraints_from rs p) ≤ k → m < k
+    push-fits e f = omega (arith, h.count, ap length (more-constraint rs (length rs) i l e))
 
-    pub push-one : (at rs i).kind ≡ 10 → Pushing rs env₀ p (env ++ i ∷ []) (i + 1)
-    push-one e = record { so_far = h.so_far ∙ rw (more-constraint rs (length rs) i l e, append_assoc env (i ∷ []) (constraints_from rs (i + 1))) }
+    pub push-one : (at rs i).kind ≡ 10 → m < length env → Pushing rs env₀ n p (set env m i) (m + 1) (i + 1)
+    push-one e f =
+        let c = h.count in
+        let o = ap length (more-constraint rs (length rs) i l e) in
+        record {
+          so_far = h.so_far ∙ rw (more-constraint rs (length rs) i l e, add-one m, take-suc-set env m i f, append_assoc (take m env) (i ∷ []) (constraints_from rs (i + 1)));
+          count = omega arith;
+        }
 
-    pub push-none : (at rs i).kind ≡ 11 → Pushing rs env₀ p env (i + 1)
-    push-none e = record { so_far = h.so_far ∙ rw (more-condition rs (length rs) i l e) }
+    pub push-none : (at rs i).kind ≡ 11 → Pushing rs env₀ n p env m (i + 1)
+    push-none e =
+        record {
+          so_far = h.so_far ∙ rw (more-condition rs (length rs) i l e);
+          count = h.count ∙ rw (more-condition rs (length rs) i l e);
+        }
 
-    pub push-stop : ¬ ((at rs i).kind ≡ 10) → ¬ ((at rs i).kind ≡ 11) → env ≡ env₀ ++ constraints_from rs p
-    push-stop e f = sym (h.so_far ∙ rw (more-other rs (length rs) i l e f, append-nil env))
+  pushed : constraints_from rs i ≡ [] → (m ≡ n + length (constraints_from rs p)) × (take m env ≡ take n env₀ ++ constraints_from rs p)
+  pushed e = (omega (arith, h.count, ap length e), sym (h.so_far ∙ rw (e, append-nil (take m env))))
 
-  pub push-end : length rs ≤ i → env ≡ env₀ ++ constraints_from rs p
-  push-end l = sym (h.so_far ∙ rw (more-end rs (length rs) i l, append-nil env))
+  pub push-stop : i < length rs → ¬ ((at rs i).kind ≡ 10) → ¬ ((at rs i).kind ≡ 11) → (m ≡ n + length (constraints_from rs p)) × (take m env ≡ take n env₀ ++ constraints_from rs p)
+  push-stop l e f = pushed (more-other rs (length rs) i l e f)
+
+  pub push-end : length rs ≤ i → (m ≡ n + length (constraints_from rs p)) × (take m env ≡ take n env₀ ++ constraints_from rs p)
+  push-end l = pushed (more-end rs (length rs) i l)
 
 -- ---- the constraint that holds, and what it makes of a record
 

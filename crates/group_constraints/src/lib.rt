@@ -3,14 +3,13 @@
 
 pub mod stack;
 
-ghost use Rattle.std.specs.Prelude.{◌≡◌, ◌++◌, ◌+◌, ◌≤◌, length, reverse, nat_eq, MatchOption};
+ghost use Rattle.std.specs.Prelude.{◌≡◌, ◌++◌, ◌+◌, ◌≤◌, length, take, reverse, nat_eq, MatchOption};
 ghost use Rattle.std.specs.List.{find};
 ghost use Rattle.rules.specs.Table.{decode, at};
 ghost use Rattle.rules.specs.InlineGroups.{kept, lookup, fixed_scalar, fixed_enum, inlined_record};
 ghost use Rattle.group_constraints.specs.Constraints.{constraints_from};
 
 use rules::{Inlined, Record};
-use stack::Stack;
 
 // The constraint of `name` that holds: of one name the innermost, then the last.
 fn lookup(table: &[u8], env: &[u16], name: u16) -> Option<u16>
@@ -82,17 +81,20 @@ pub fn inlined_record(table: &[u8], env: &[u16], r: Record) -> Inlined
     }
 }
 
-// Puts the places of the constraints of the field before `place` on the stack.
-pub fn push_constraints<const N: usize>(table: &[u8], place: usize, env: &mut Stack<N>)
-    requires { (length (decode table.now) ≤ 1600) × (length env.old + length (constraints_from (decode table.now) place) ≤ N) }
-    ensures { env.new ≡ env.old ++ constraints_from (decode table.now) place }
+// Puts the places of the constraints of the field before `place` behind the first `count` of `env`. Returns how many it holds then.
+pub fn push_constraints(table: &[u8], place: usize, env: &mut [u16], count: usize) -> usize
+    requires { (length (decode table.now) ≤ 1600) × (count + length (constraints_from (decode table.now) place) ≤ length env.old) }
+    ensures { (result ≡ count + length (constraints_from (decode table.now) place)) × (take result env.new ≡ take count env.old ++ constraints_from (decode table.now) place) }
 {
+    let mut m = count;
     for p in place..table::count(table) {
         let k = table::kind(table, p);
         if k == kinds::CONSTRAINT {
-            env.push(p as u16);
+            env[m] = p as u16;
+            m += 1;
         } else if k != kinds::CONDITION {
-            return;
+            return m;
         }
     }
+    m
 }

@@ -1,29 +1,33 @@
 // The stack of the places of constraints.
-ghost use Rattle.std.specs.Prelude.{◌≡◌, ◌<◌, ◌≤◌, List, ℕ, [], ◌∷◌, ◌++◌, length, take};
+ghost use Rattle.std.specs.Prelude.{◌≡◌, ◌+◌, ◌≤◌, List, ℕ, [], ◌++◌, length, take};
+ghost use Rattle.rules.specs.Table.{decode};
+ghost use Rattle.group_constraints.specs.Constraints.{constraints_from};
 
+use crate::push_constraints;
+use rules::limits::MOST_RECORDS;
 use std::marker::Model;
 
-// The places of the constraints that hold, the outermost first: at most N.
+// The places of the constraints that hold, the outermost first: as many as there are places in a table.
 #[derive(Drop)]
-pub struct Stack<const N: usize> {
-    places: [u16; N],
+pub struct Stack {
+    places: [u16; MOST_RECORDS],
     len: usize,
 }
 
-impl<const N: usize> Model for Stack<N> {
+impl Model for Stack {
     ghost Value = { List ℕ };
 
     ghost view = { λ s. take s.len s.places };
 
-    ghost invariant = { λ s. s.len ≤ N };
+    ghost invariant = { λ s. s.len ≤ 1600 };
 }
 
-impl<const N: usize> Stack<N> {
+impl Stack {
     pub fn new() -> Self
         ensures { result ≡ [] }
     {
         Stack {
-            places: [0; N],
+            places: [0; MOST_RECORDS],
             len: 0,
         }
     }
@@ -40,12 +44,12 @@ impl<const N: usize> Stack<N> {
         &self.places[..self.len]
     }
 
-    pub(crate) fn push(&mut self, place: u16)
-        requires { length self.old < N }
-        ensures { self.new ≡ self.old ++ place ∷ [] }
+    // Puts the places of the constraints of the field before `place` on the stack.
+    pub fn push_constraints(&mut self, table: &[u8], place: usize)
+        requires { (length (decode table.now) ≤ 1600) × (length self.old + length (constraints_from (decode table.now) place) ≤ 1600) }
+        ensures { self.new ≡ self.old ++ constraints_from (decode table.now) place }
     {
-        self.places[self.len] = place;
-        self.len += 1;
+        self.len = push_constraints(table, place, &mut self.places, self.len);
     }
 
     // Leaves the first `len`.

@@ -7,11 +7,10 @@ ghost use Rattle.rules.specs.InlineGroups.{inlined};
 ghost use Rattle.group_sizes.specs.Sizes.{total_size};
 ghost use Rattle.group_table.specs.Outputs.{unfit_after, output, added, added_all, empty, RoomForInlined, ExpandReady, Expanded};
 
+use group_constraints::inlined_record;
 use group_constraints::stack::Stack;
-use group_constraints::{inlined_record, push_constraints};
 use kinds::{is_constraint_or_condition, is_kept};
 use records::record;
-use rules::limits::MOST_RECORDS;
 use rules::{FieldKey, Inlined};
 
 // How many records are written, and the key of the first that is not fit.
@@ -47,7 +46,7 @@ fn expand(
     targets: &[u16],
     sizes: &[u16],
     decl: usize,
-    env: &mut Stack<MOST_RECORDS>,
+    env: &mut Stack,
     out: &mut [u8],
     progress: ExpandProgress,
 ) -> ExpandProgress
@@ -68,12 +67,16 @@ fn expand(
             let g = targets[p] as usize;
             if sizes[g] != 0 {
                 let top = env.len();
-                push_constraints(table, p + 1, env);
+                env.push_constraints(table, p + 1);
                 s = expand(table, targets, sizes, g, env, out, s);
                 env.truncate(top);
             }
         } else if !bound {
-            s = add(out, s, inlined_record(table, env.as_slice(), record(table, p)));
+            s = add(
+                out,
+                s,
+                inlined_record(table, env.as_slice(), record(table, p)),
+            );
         }
     }
     s

@@ -17,15 +17,9 @@ const LAST_NAME: u16 = MOST_RECORDS as u16;
 fn record(kind: u8, name: u16, second: u16) -> Record {
     Record {
         kind,
-        marks: 0,
         name,
         second,
-        third: 0,
-        one: 0,
-        two: 0,
-        key: 0,
-        start: 0,
-        end: 0,
+        ..Record::default()
     }
 }
 

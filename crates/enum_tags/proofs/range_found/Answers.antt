@@ -1,5 +1,6 @@
 -- `enum_tags::range_found` meets its contract. Assumes nothing.
 use Rattle.rules.specs.EnumDeclarations.{range_found}
+use Rattle.table.proofs.Laws.{default_blank}
 use Rattle.enum_tags.proofs.range_found.Goals as goal
 
 pub returns-in-Some : goal.returns-in-Some
@@ -9,4 +10,4 @@ returns-in-Some c =
 
 pub returns-in-None : goal.returns-in-None
 unfolding range_found
-returns-in-None c = rw c.in-None.is
+returns-in-None c = rw c.in-None.is (default_blank c.default.ensures)
