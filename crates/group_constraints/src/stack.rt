@@ -23,6 +23,7 @@ impl Model for Stack {
 }
 
 impl Stack {
+    // A stack with nothing on it.
     pub fn new() -> Self
         ensures { result ≡ [] }
     {
@@ -32,12 +33,14 @@ impl Stack {
         }
     }
 
+    // How many places are on it.
     pub fn len(&self) -> usize
         ensures { result ≡ length self.now }
     {
-        self.len // places
+        self.as_slice().len()
     }
 
+    // The places, the outermost first.
     pub fn as_slice(&self) -> &[u16]
         ensures { result.now ≡ self.now }
     {
