@@ -13,8 +13,6 @@ use borrow.Author.Tests.{le-ltb, lt-ltb}
 use Rattle.std.specs.Prelude.{if◌then◌else◌}
 use Rattle.rules.specs.Bytes.{written}
 use Rattle.rules.specs.Printed.{decimals, decimal, listing, line}
-use Rattle.std.specs.Fmt as std
-use Rattle.std.proofs.lemmas.Fmt.{AppendsLastDigit, decimal_from_appends, length-decimal-le}
 use Rattle.printed_text.specs.TextAppended.{TextAppended}
 
 -- one after the other
@@ -73,16 +71,17 @@ length-decimals (suc k) n =
 pub length-decimal : (n : ℕ) → length (decimal n) ≤ 20
 length-decimal n = length-decimals 19 n
 
--- the digits of a number of 64 bits are those that std prints
-std-decimals : AppendsLastDigit decimals
+-- the digits of a number of 64 bits: one digit, or those of its tenth and the last
+one-digit : (n : ℕ) → n < 10 → decimal n ≡ (48 + n) ∷ []
 unfolding decimals
-std-decimals = record { one = λ k n h. few k n h; more = λ k n h. simp (le-ltb n 10 h) }
-  where
-    few : (k n : ℕ) → n < 10 → decimals (suc k) n ≡ (48 + n) ∷ []
-    few k n h = simp (lt-ltb n 10 h)
+one-digit n h = simp (lt-ltb n 10 h)
 
-pub decimal-std : (n : ℕ) → n < 2 ^ 64 → std.decimal n ≡ decimal n
-decimal-std n h = sym (decimal_from_appends decimals std-decimals 20 n h (length-decimal-le 20 n (omega arith) (omega arith) h)) ∙ more 19 n (omega arith)
+last-digit : (n : ℕ) → n < 2 ^ 64 → 10 ≤ n → decimal n ≡ decimal (n / 10) ++ (48 + n % 10) ∷ []
+unfolding decimals
+last-digit n h g = simp (le-ltb n 10 g) (ap (λ (l : List ℕ). l ++ (48 + n % 10) ∷ []) (sym (more 18 (n / 10) (omega arith))))
+
+length-short : (n : ℕ) → n < 10 ^ 19 → length (decimal n) ≤ 19
+length-short n h = subst (λ (l : List ℕ). length l ≤ 19) (sym (more 18 n h)) (length-decimals 18 n)
 
 -- numbers behind blanks, and one more
 listing-more : (ns : List ℕ) (n : ℕ) → listing (ns ++ n ∷ []) ≡ listing ns ++ 32 ∷ decimal n
@@ -94,6 +93,19 @@ pub length-listing : (ns : List ℕ) → length (listing ns) ≤ 21 * length ns
 unfolding listing
 length-listing [] = omega arith
 length-listing (n ∷ ns) = omega (arith, length-append (decimal n) (listing ns), length-decimal n, length-listing ns)
+
+-- a number: its only digit, or one more behind those of its tenth
+pub append-digit : (b : List ℕ) (i x : ℕ) → x < 10 → i < length b → TextAppended b i (decimal x) (set b i (48 + x)) (i + 1)
+append-digit b i x h g = subst (λ (s : List ℕ). TextAppended b i s (set b i (48 + x)) (i + 1)) (sym (one-digit x h)) (append-byte b i (48 + x) g)
+
+-- behind a number of 19 digits there is room for one more
+pub digit-fits : {b c : List ℕ} {i j y : ℕ} → y < 10 ^ 19 → i + 20 ≤ length b → length c ≡ length b → TextAppended b i (decimal y) c j → j < length c
+digit-fits {y = y} h room same upper = omega (arith, upper.place, length-short y h)
+
+pub append-last : {b c : List ℕ} {i j : ℕ} (x : ℕ) → x < 2 ^ 64 → i + 20 ≤ length b → length c ≡ length b → TextAppended b i (decimal (x / 10)) c j → 10 ≤ x → TextAppended b i (decimal x) (set c j (48 + x % 10)) (j + 1)
+append-last {b} {c} {i} {j} x h room same tenth g =
+    subst (λ (s : List ℕ). TextAppended b i s (set c j (48 + x % 10)) (j + 1)) (sym (last-digit x h g))
+    (append-then (decimal (x / 10)) ((48 + x % 10) ∷ []) (omega arith) tenth (append-byte c j (48 + x % 10) (digit-fits (omega arith) room same tenth)))
 
 -- the numbers of a list, one after the other
 pub listing_none : (b : List ℕ) (i : ℕ) (ns : List ℕ) → TextAppended b i (listing (take 0 ns)) b i

@@ -12,10 +12,13 @@ fn append_digits(text: &mut [u8], at: usize, number: u64) -> usize
     requires { at + 20 ≤ length text.old }
     ensures { TextAppended text.old at (decimal number) text.new result }
 {
-    let mut buffer = itoa::Buffer::new();
-    let digits = buffer.format(number).as_bytes();
-    store::write(text, at, digits);
-    at + digits.len()
+    if number < 10 {
+        text[at] = 48 + (number as u8);
+        return at + 1;
+    }
+    let p = append_digits(text, at, number / 10);
+    text[p] = 48 + ((number % 10) as u8);
+    p + 1
 }
 
 // Numbers, each behind a blank.
