@@ -8,6 +8,8 @@ use crate::fault;
 use rules::limits::FAULT_LENGTH;
 use rules::{Fault, Tally};
 
+// The tally and the buffer stay two parameters: of a struct that holds the lent buffer, nothing is known of the lender's bytes at its end.
+
 // One fault more: kept where a whole one still fits, and counted.
 pub fn noted(before: Tally, buffer: &mut [u8], fault: Fault) -> Tally
     requires { before.total + 1 < 2 ^ 64 }

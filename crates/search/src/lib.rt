@@ -11,6 +11,8 @@ ghost use Rattle.rules.specs.Places.{nearest, holds_at, first_from, first_within
 use rules::Target;
 use targets::holds;
 
+// The searches are loops and not `find`, whose closure over the table and the target is no plainer.
+
 // The nearest place below `place`.
 pub fn nearest(table: &[u8], target: Target, place: usize) -> Option<usize>
     ensures { result ≡ nearest (holds_at (decode table.now) target) place }

@@ -1,4 +1,4 @@
-// What a search looks for.
+// What a search looks for. It is data, as in the definitions: with closures, each caller would have to show what its own computes.
 ghost use Rattle.std.specs.Prelude.{◌≡◌};
 ghost use Rattle.rules.specs.Table.{decode, at};
 ghost use Rattle.rules.specs.Places.{holds};
