@@ -1,18 +1,17 @@
 -- Laws of what is written of a place and of the whole table. Assumes nothing.
 use Prim.Native.Nat.{ℕ, zero, suc, ◌+◌, ◌-◌, ◌<◌, ◌≤◌}
 use mathlib.Core.Path.{◌≡◌, refl, sym, ap, ◌∙◌}
-use mathlib.Core.List.{List, [], ◌∷◌, ◌++◌}
+use mathlib.Core.List.{List, ◌∷◌, ◌++◌}
 use native.Mathlib.Omega.{arith}
 use native.Mathlib.Numerals.{add-one}
 use native.Mathlib.Decide.{dec_lt}
-use borrow.Author.Tests.{eq-eqb, ne_eqb}
 use lib.ListN.{length, get_or}
 use Rattle.rules.specs.Bytes.{written}
 use Rattle.rules.specs.Table.{at, encode}
 use Rattle.rules.specs.Places.{each}
-use Rattle.rules.specs.DesugarFlags.{members_start, entry_of, entries_of, condition_at, entries_at, own_entries, desugared_at, desugared}
+use Rattle.rules.specs.DesugarFlags.{members_start, entry_of, entries_of, condition_at, own_entries, desugared_at, desugared}
 use Rattle.rules.specs.declared.Record.{Record}
-use Rattle.table.proofs.Laws.{left-suc, left-none, each_more}
+use Rattle.table.proofs.Laws.{each_more}
 use Rattle.flag_sizes.specs.Counts.{Counted}
 use Rattle.flag_sizes.proofs.Laws.{own_from, size_below, size-more, size-all}
 use Rattle.flag_table.specs.RecordsAppended.{RecordsAppended, RoomForRecords}
@@ -23,20 +22,6 @@ module _ (rs : List Record) (q : ℕ) {c : Record} (e : c ≡ at rs q) where
   pub entry-as : {r : Record} → r ≡ at rs (q - 1)
       → record { kind = 12; marks = 0; name = r.name; second = 0; third = 0; one = c.one; two = 0; key = 0; start = 0; end = 0 } ≡ entry_of rs q
   entry-as f = rw (f, e)
-
--- the entries that stand one after another from q on, by the record at q
-module _ (rs : List Record) (q : ℕ) where
-  pub own-end : length rs ≤ q → own_from rs q ≡ []
-  unfolding entries_at
-  own-end l = rw (left-none (length rs) q l, entries_at)
-
-  pub own-other : q < length rs → ¬ ((at rs q).kind ≡ 12) → own_from rs q ≡ []
-  unfolding entries_at
-  own-other l k = rw (left-suc (length rs) q l, entries_at, ne_eqb _ _ k)
-
-  pub own-hit : q < length rs → (at rs q).kind ≡ 12 → own_from rs q ≡ at rs q ∷ own_from rs (q + 1)
-  unfolding entries_at
-  own-hit l k = rw (left-suc (length rs) q l, entries_at, eq-eqb _ _ k)
 
 -- the entries of the record at p start behind what was written of it, from place c to place n
 pub own-place : (rs : List Record) (p c n : ℕ) (r : Record) → n ≡ c + length (r ∷ condition_at rs (p + 1)) → own_entries rs p ≡ own_from rs (p + (n - c))

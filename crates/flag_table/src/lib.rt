@@ -9,7 +9,7 @@ ghost use Rattle.flag_sizes.specs.Counts.{Counted};
 ghost use Rattle.flag_table.specs.Writing.{WritingAt};
 ghost use Rattle.flag_table.specs.RecordsAppended.{RecordsAppended, RoomForRecords};
 
-use flag_sizes::entries::Naming;
+use flag_sizes::entries::{Naming, Standing};
 use rules::Record;
 
 // The entry of the condition at `place`.
@@ -71,14 +71,10 @@ fn write_own(table: &[u8], from: usize, out: &mut [u8], count: usize) -> usize
     requires { RoomForRecords out.old count (entries_at (decode table.now) from (length (decode table.now) - from)) }
     ensures { RecordsAppended out.old count (entries_at (decode table.now) from (length (decode table.now) - from)) out.new result }
 {
+    let places = Standing { table, place: from };
     let mut n = count;
-    // Over Standing, plain tables took 8 % longer here: most records have no entries, and this asks so each time.
-    for p in from..table::count(table) {
-        let r = records::at(table, p);
-        if r.kind != kinds::FLAG_ENTRY {
-            return n;
-        }
-        n = append(out, n, r);
+    for p in places {
+        n = append(out, n, records::at(table, p));
     }
     n
 }
