@@ -7,7 +7,6 @@ use native.Mathlib.Omega.{arith}
 use native.Mathlib.Decide.{dec_lt}
 use lib.ListN.{length, take, get_or, length-take}
 use Rattle.std.specs.Option.{unwrap_or}
-use Rattle.rules.specs.Table.{decode}
 use Rattle.rules.specs.InlineGroups.{inlined, record_of}
 use Rattle.rules.specs.Replies.{answered, flagged, by_size}
 use Rattle.rules.specs.declared.Record.{Record}
@@ -44,18 +43,18 @@ pub part-few : (b : List ℕ) {k m : ℕ} → k ≤ m → k ≤ 64000 → length
 part-few b {k} h g = omega (arith, length-decode (take k b), length-take k b)
 
 -- read back from the bytes that inlining wrote
-module _ (t : List ℕ) (small : (i : ℕ) → get_or t i 0 < 256) {x : Result ℕ InlineError} (b : List ℕ) (e : x ≡ inlining (length b) (inlined (decode t)))
-    {b' : List ℕ} (w : b' ≡ inlining_bytes b (inlined (decode t))) (n : ℕ) (h : x ≡ Ok n) where
-  read_back : decode (take (40 * n) b') ≡ map record_of (inlined (decode t))
+module _ (t : List ℕ) (small : (i : ℕ) → get_or t i 0 < 256) {x : Result ℕ InlineError} (b : List ℕ) (e : x ≡ inlining (length b) (inlined t))
+    {b' : List ℕ} (w : b' ≡ inlining_bytes b (inlined t)) (n : ℕ) (h : x ≡ Ok n) where
+  read_back : decode (take (40 * n) b') ≡ map record_of (inlined t)
   read_back = rw w (read-records t small b n (sym e ∙ h))
 
-  pub inlined-few : (n ≤ 1600) × (n ≡ length (inlined (decode t))) × (40 * n ≤ length b)
-  inlined-few = few-records (length b) (inlined (decode t)) n (sym e ∙ h)
+  pub inlined-few : (n ≤ 1600) × (n ≡ length (inlined t)) × (40 * n ≤ length b)
+  inlined-few = few-records (length b) (inlined t) n (sym e ∙ h)
 
   pub told-inlined : (o : List ℕ) (r : Reply) {o' : List ℕ}
-      → ((f : List ℕ) → answered r o' f ≡ flagged (decode (take (40 * n) b')) o f) → Wrote (length b) (decode t) o o' (Some r)
+      → ((f : List ℕ) → answered r o' f ≡ flagged (decode (take (40 * n) b')) o f) → Wrote (length b) t o o' (Some r)
   unfolding Wrote
-  told-inlined o r d f = (rw read_back at (d f)) ∙ reply-inlined (length b) (inlined (decode t)) o f n (sym e ∙ h)
+  told-inlined o r d f = (rw read_back at (d f)) ∙ reply-inlined (length b) (inlined t) o f n (sym e ∙ h)
 
 -- the table, written with a buffer of m bytes
 module _ (m : ℕ) (rs : List Record) (t t' : List ℕ) (x : Option Reply) (w : Wrote m rs t t' x) where

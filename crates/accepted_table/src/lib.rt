@@ -2,14 +2,13 @@
 #![tactic(auto)]
 
 ghost use Rattle.std.specs.Prelude.{◌≡◌, List, ℕ, ◌≤◌, length};
-ghost use Rattle.rules.specs.Table.{decode};
 ghost use Rattle.rules.specs.InlineGroups.{inlined};
 ghost use Rattle.rules.specs.Replies.{answered, by_size};
 ghost use Rattle.group_sizes.specs.GroupsFirst.{GroupsFirst};
 ghost use Rattle.accepted_table.specs.Wrote.{Wrote};
 
 use inline_groups::InlineError;
-use rules::Reply;
+use rules::{Record, Reply};
 use rules::limits::{RECORD_LENGTH, TABLE_LENGTH};
 use table::FEW_RECORDS;
 
@@ -18,9 +17,9 @@ const SMALL_LENGTH: usize = RECORD_LENGTH * 2 * FEW_RECORDS;
 
 // Groups inlined into a buffer, then flags made: the rows from Swollen on, for a table in listed order. None where the buffer is too short
 // for the inlined table.
-fn write_table(listed: &[u8], expanded: &mut [u8], table: &mut [u8]) -> Option<Reply>
-    requires { (length (decode listed.now) ≤ 1600) × GroupsFirst (decode listed.now) }
-    ensures { Wrote (length expanded.old) (decode listed.now) table.old table.new result }
+fn write_table(listed: &[Record], expanded: &mut [u8], table: &mut [u8]) -> Option<Reply>
+    requires { (length listed.now ≤ 1600) × GroupsFirst listed.now }
+    ensures { Wrote (length expanded.old) listed.now table.old table.new result }
 {
     match inline_groups::inline_groups(listed, expanded) {
         Ok(n) => {
@@ -34,9 +33,9 @@ fn write_table(listed: &[u8], expanded: &mut [u8], table: &mut [u8]) -> Option<R
 }
 
 // With a buffer of `N` bytes.
-fn write_in<const N: usize>(listed: &[u8], table: &mut [u8]) -> Option<Reply>
-    requires { (length (decode listed.now) ≤ 1600) × GroupsFirst (decode listed.now) × (N ≤ 64000) }
-    ensures { Wrote N (decode listed.now) table.old table.new result }
+fn write_in<const N: usize>(listed: &[Record], table: &mut [u8]) -> Option<Reply>
+    requires { (length listed.now ≤ 1600) × GroupsFirst listed.now × (N ≤ 64000) }
+    ensures { Wrote N listed.now table.old table.new result }
 {
     let mut expanded = [0u8; N];
     write_table(listed, &mut expanded, table)
@@ -44,11 +43,11 @@ fn write_in<const N: usize>(listed: &[u8], table: &mut [u8]) -> Option<Reply>
 
 // With the small buffer first where it is likely to do: a large one takes longer to clear than a small table to analyze. For the large one,
 // of 1,600 records, no inlined table is too long.
-pub fn write_listed(listed: &[u8], table: &mut [u8]) -> Reply
-    requires { (length (decode listed.now) ≤ 1600) × GroupsFirst (decode listed.now) }
-    ensures { (f : List ℕ) → answered result table.new f ≡ by_size (inlined (decode listed.now)) table.old f }
+pub fn write_listed(listed: &[Record], table: &mut [u8]) -> Reply
+    requires { (length listed.now ≤ 1600) × GroupsFirst listed.now }
+    ensures { (f : List ℕ) → answered result table.new f ≡ by_size (inlined listed.now) table.old f }
 {
-    if table::count(listed) <= FEW_RECORDS {
+    if listed.len() <= FEW_RECORDS {
         if let Some(reply) = write_in::<SMALL_LENGTH>(listed, table) {
             return reply;
         }

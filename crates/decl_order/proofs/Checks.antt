@@ -7,7 +7,6 @@ use native.Mathlib.Nat.{zero-add}
 use lib.ListN.{length, take, drop}
 use lib.Seq.{take_at}
 use Rattle.rules.specs.Bytes.{written}
-use Rattle.rules.specs.Table.{decode}
 use Rattle.rules.specs.Faults.{Log, log, logged}
 use Rattle.rules.specs.DeclIdentifiers.{visited, fault_of, pass2, order, ordered, all_records}
 use Rattle.rules.specs.Ordering.{Accepts}
@@ -25,17 +24,17 @@ use Rattle.decl_order.proofs.Room.{ordered-short}
 
 -- the parts of a table's order, as later passes use them
 
-module _ (t : List ℕ) (a : Accepts (decode t)) where
-  listed_in : (d : ℕ) → Memᴰ d (order (decode t)) → d < length (decode t)
-  listed_in d m = (listed-declared (decode t) a d m).0
+module _ (t : List ℕ) (a : Accepts t) where
+  listed_in : (d : ℕ) → Memᴰ d (order t) → d < length t
+  listed_in d m = (listed-declared t a d m).0
 
-  pub ordered-bytes : decode (all_bytes t (order (decode t))) ≡ ordered (decode t)
+  pub ordered-bytes : decode (all_bytes t (order t)) ≡ ordered t
   unfolding ordered
-  ordered-bytes = all-decode t (order (decode t)) listed_in
+  ordered-bytes = all-decode t (order t) listed_in
 
-  pub ordered-length : length (all_bytes t (order (decode t))) ≡ 40 * length (ordered (decode t))
+  pub ordered-length : length (all_bytes t (order t)) ≡ 40 * length (ordered t)
   unfolding ordered
-  ordered-length = all-length t (order (decode t)) listed_in
+  ordered-length = all-length t (order t) listed_in
 
 none_found : (fs : List Fault) → length fs ≡ 0 → fs ≡ []
 none_found [] e = refl
@@ -45,55 +44,55 @@ some-found : (fs : List Fault) → 0 < length fs → fs ≡ [] → ⊥
 some-found fs l e = let z = ap length e in omega arith
 
 -- what the visits leave
-module _ (t o₀ f₀ m o f : List ℕ) (a : VisitProgress) (h : StateHeld (decode t) o₀ f₀ (visited (decode t)) m o f a) where
-  faults-logged : log a.tally f ≡ logged f₀ (pass2 (decode t))
+module _ (t o₀ f₀ m o f : List ℕ) (a : VisitProgress) (h : StateHeld t o₀ f₀ (visited t) m o f a) where
+  faults-logged : log a.tally f ≡ logged f₀ (pass2 t)
   unfolding pass2
-  faults-logged = h.faults_are ∙ noted-logged f₀ (map (fault_of (decode t)) (visited (decode t)).faults)
+  faults-logged = h.faults_are ∙ noted-logged f₀ (map (fault_of t) (visited t).faults)
 
-  total-is : a.tally.total ≡ length (pass2 (decode t))
+  total-is : a.tally.total ≡ length (pass2 t)
   unfolding pass2
-  total-is = total-after no_faults f₀ (map (fault_of (decode t)) (visited (decode t)).faults) h.faults_are ∙ zero-add (length (pass2 (decode t)))
+  total-is = total-after no_faults f₀ (map (fault_of t) (visited t).faults) h.faults_are ∙ zero-add (length (pass2 t))
 
   pub ret-faulty : (out : List ℕ) → 0 < a.tally.total → DeclIdentifiersChecked t f₀ out f out (Err a.tally)
-  ret-faulty out l = ((λ e. some-found (pass2 (decode t)) (omega (arith, total-is)) e), faults-logged, refl)
+  ret-faulty out l = ((λ e. some-found (pass2 t) (omega (arith, total-is)) e), faults-logged, refl)
 
-  module _ (z : a.tally.total ≤ 0) (few : length (decode t) ≤ 1600) (room : length (decode t) ≤ length o₀) where
-    accepts : Accepts (decode t)
-    accepts = none_found (pass2 (decode t)) (omega (arith, total-is))
+  module _ (z : a.tally.total ≤ 0) (few : length t ≤ 1600) (room : length t ≤ length o₀) where
+    accepts : Accepts t
+    accepts = none_found (pass2 t) (omega (arith, total-is))
 
-    places_are : take a.listed o ≡ order (decode t)
+    places_are : take a.listed o ≡ order t
     unfolding order
-    places_are = order-read (decode t) o₀ f₀ m o f a few room h
+    places_are = order-read t o₀ f₀ m o f a few room h
 
     -- no fault is kept, and none found
-    clean-logged : log no_faults f ≡ logged f₀ (pass2 (decode t))
+    clean-logged : log no_faults f ≡ logged f₀ (pass2 t)
     clean-logged =
-        let e = logged_none f₀ (pass2 (decode t)) (omega (arith, total-is)) in
+        let e = logged_none f₀ (pass2 t) (omega (arith, total-is)) in
         ap (λ (l : Log). log no_faults l.buffer) (faults-logged ∙ e) ∙ sym e
 
     pub listed-short : length o ≡ length o₀ → a.listed ≤ length o
-    listed-short lo = omega (arith, order-short (decode t) few, h.listed_is)
+    listed-short lo = omega (arith, order-short t few, h.listed_is)
 
-    pub call-copy : (out : List ℕ) → 40 * length (decode t) ≤ length out → Placed (decode t) (take a.listed o) out
+    pub call-copy : (out : List ℕ) → 40 * length t ≤ length out → Placed t (take a.listed o) out
     unfolding ordered
     call-copy out l = record {
       within = λ d i. listed_in t accepts d (subst (λ (x : List ℕ). Memᴰ d x) places_are i);
-      fits = rw places_are (omega (arith, ordered-short (decode t) accepts));
+      fits = rw places_are (omega (arith, ordered-short t accepts));
     }
 
-    pub ret-copied : (out out' : List ℕ) (n : ℕ) → (n ≡ length (all_records (decode t) (take a.listed o))) × (out' ≡ written out 0 (all_bytes t (take a.listed o)))
+    pub ret-copied : (out out' : List ℕ) (n : ℕ) → (n ≡ length (all_records t (take a.listed o))) × (out' ≡ written out 0 (all_bytes t (take a.listed o)))
         → DeclIdentifiersChecked t f₀ out f out' (Ok n)
     unfolding ordered
     ret-copied out out' n e =
-        let bytes : out' ≡ written out 0 (all_bytes t (order (decode t))) = rw places_are at e.1 in
-        let count : n ≡ length (ordered (decode t)) = rw places_are at e.0 in
-        let long : length (all_bytes t (order (decode t))) ≡ 40 * n = ordered-length t accepts ∙ ap (λ (k : ℕ). 40 * k) (sym count) in (
+        let bytes : out' ≡ written out 0 (all_bytes t (order t)) = rw places_are at e.1 in
+        let count : n ≡ length (ordered t) = rw places_are at e.0 in
+        let long : length (all_bytes t (order t)) ≡ 40 * n = ordered-length t accepts ∙ ap (λ (k : ℕ). 40 * k) (sym count) in (
           accepts,
           clean-logged,
           record {
             count = count;
-            short = omega (arith, count, ordered-short (decode t) accepts);
+            short = omega (arith, count, ordered-short t accepts);
             bytes = bytes;
-            records = rw (bytes, take_at (all_bytes t (order (decode t))) (drop (0 + length (all_bytes t (order (decode t)))) out) (40 * n) long) (ordered-bytes t accepts);
+            records = rw (bytes, take_at (all_bytes t (order t)) (drop (0 + length (all_bytes t (order t))) out) (40 * n) long) (ordered-bytes t accepts);
           },
         )

@@ -10,7 +10,7 @@ use native.Mathlib.Omega.{arith}
 use lib.ListN.{length, get_or, take, drop, length-append, length-drop, take-append-drop, get_or-append}
 use lib.Seq.{length-take-le, take_at, drop_at, take-suc, drop-append-le}
 use Rattle.rules.specs.Bytes.{number_at, written}
-use Rattle.rules.specs.Table.{record_at, records, decode}
+use Rattle.rules.specs.Table.{record_at, records}
 use Rattle.rules.specs.Places.{holds_at, first_from, member_count}
 use Rattle.rules.specs.DeclIdentifiers.{decl_records, all_records}
 use Rattle.rules.specs.declared.Record.{Record}
@@ -42,7 +42,7 @@ records-append zero k (x ∷ xs) ys e = absurd (omega arith)
 records-append (suc m) k xs ys e =
     rw (suc-add m k, records, record-append xs ys (omega arith), drop-append-le 40 xs ys (omega arith), records-append m k (drop 40 xs) ys (length-drop 40 xs ∙ omega arith))
 
-decode-append : (m : ℕ) (xs ys : List ℕ) → length xs ≡ 40 * m → decode (xs ++ ys) ≡ decode xs ++ decode ys
+decode-append : (m : ℕ) (xs ys : List ℕ) → length xs ≡ 40 * m → decode (xs ++ ys) ≡ xs ++ ys
 unfolding decode
 decode-append m xs ys e =
     let a : length (xs ++ ys) / 40 ≡ m + length ys / 40 = omega (arith, length-append xs ys) in
@@ -50,16 +50,16 @@ decode-append m xs ys e =
     rw (a, b) (records-append m (length ys / 40) xs ys e)
 
 module _ (t : List ℕ) (d : ℕ) (h : 40 * d ≤ length t) where
-  decode-split : decode t ≡ decode (take (40 * d) t) ++ decode (drop (40 * d) t)
+  decode-split : t ≡ decode (take (40 * d) t) ++ decode (drop (40 * d) t)
   decode-split = ap decode (sym (take-append-drop (40 * d) t)) ∙ decode-append d (take (40 * d) t) (drop (40 * d) t) (length-take-le (40 * d) t h)
 
   decoded : length (decode (take (40 * d) t)) ≡ d
   decoded = length-decode (take (40 * d) t) ∙ omega (arith, length-take-le (40 * d) t h)
 
-  decode-take : decode (take (40 * d) t) ≡ take d (decode t)
+  decode-take : decode (take (40 * d) t) ≡ take d t
   decode-take = sym (ap (take d) decode-split ∙ take_at (decode (take (40 * d) t)) (decode (drop (40 * d) t)) d decoded)
 
-  decode-drop : decode (drop (40 * d) t) ≡ drop d (decode t)
+  decode-drop : decode (drop (40 * d) t) ≡ drop d t
   decode-drop = sym (ap (drop d) decode-split ∙ drop_at (decode (take (40 * d) t)) (decode (drop (40 * d) t)) d decoded)
 
 -- ---- the records of a declaration
@@ -80,19 +80,19 @@ module _ (rs : List Record) (d : ℕ) where
   unfolding decl_records
   decl-length l = length-take-le (1 + member_count rs d) (drop d rs) (omega (arith, count_fits l, length-drop d rs))
 
-module _ (t : List ℕ) (d : ℕ) (l : d < length (decode t)) where
-  place_in : 40 * (d + (1 + member_count (decode t) d)) ≤ length t
-  place_in = omega (arith, count_fits (decode t) d l, length-decode t)
+module _ (t : List ℕ) (d : ℕ) (l : d < length t) where
+  place_in : 40 * (d + (1 + member_count t d)) ≤ length t
+  place_in = omega (arith, count_fits t d l, length-decode t)
 
-  bytes-length : length (decl_bytes t d) ≡ 40 * (1 + member_count (decode t) d)
+  bytes-length : length (decl_bytes t d) ≡ 40 * (1 + member_count t d)
   unfolding decl_bytes
-  bytes-length = length-take-le (40 * (1 + member_count (decode t) d)) (drop (40 * d) t) (omega (arith, place_in, length-drop (40 * d) t))
+  bytes-length = length-take-le (40 * (1 + member_count t d)) (drop (40 * d) t) (omega (arith, place_in, length-drop (40 * d) t))
 
-  bytes-decode : decode (decl_bytes t d) ≡ decl_records (decode t) d
+  bytes-decode : decode (decl_bytes t d) ≡ decl_records t d
   unfolding decl_bytes decl_records
   bytes-decode =
-      decode-take (drop (40 * d) t) (1 + member_count (decode t) d) (omega (arith, place_in, length-drop (40 * d) t))
-      ∙ ap (take (1 + member_count (decode t) d)) (decode-drop t d (omega (arith, place_in)))
+      decode-take (drop (40 * d) t) (1 + member_count t d) (omega (arith, place_in, length-drop (40 * d) t))
+      ∙ ap (take (1 + member_count t d)) (decode-drop t d (omega (arith, place_in)))
 
 -- ---- the records of listed declarations
 
@@ -111,45 +111,45 @@ unfolding all_records
 records-append-all rs [] k = refl
 records-append-all rs (x ∷ l) k = ap (λ (y : List Record). decl_records rs x ++ y) (records-append-all rs l k) ∙ sym (append_assoc (decl_records rs x) (all_records rs l) (all_records rs k))
 
-pub all-length : (t l : List ℕ) → ((d : ℕ) → Memᴰ d l → d < length (decode t)) → length (all_bytes t l) ≡ 40 * length (all_records (decode t) l)
+pub all-length : (t l : List ℕ) → ((d : ℕ) → Memᴰ d l → d < length t) → length (all_bytes t l) ≡ 40 * length (all_records t l)
 unfolding all_bytes all_records
 all-length t [] h = refl
 all-length t (d ∷ l) h =
     let i = h d (Memᴰ.head refl) in
     length-append (decl_bytes t d) (all_bytes t l)
-    ∙ omega (arith, length-append (decl_records (decode t) d) (all_records (decode t) l), bytes-length t d i, decl-length (decode t) d i, all-length t l (λ e m. h e (Memᴰ.tail m)))
+    ∙ omega (arith, length-append (decl_records t d) (all_records t l), bytes-length t d i, decl-length t d i, all-length t l (λ e m. h e (Memᴰ.tail m)))
 
-pub all-decode : (t l : List ℕ) → ((d : ℕ) → Memᴰ d l → d < length (decode t)) → decode (all_bytes t l) ≡ all_records (decode t) l
-unfolding all_bytes all_records decode records
+pub all-decode : (t l : List ℕ) → ((d : ℕ) → Memᴰ d l → d < length t) → decode (all_bytes t l) ≡ all_records t l
+unfolding all_bytes all_records records
 all-decode t [] h = refl
 all-decode t (d ∷ l) h =
     let i = h d (Memᴰ.head refl) in
-    decode-append (1 + member_count (decode t) d) (decl_bytes t d) (all_bytes t l) (bytes-length t d i)
+    decode-append (1 + member_count t d) (decl_bytes t d) (all_bytes t l) (bytes-length t d i)
     ∙ rw (bytes-decode t d i, all-decode t l (λ e m. h e (Memᴰ.tail m)))
 
 -- ---- the loop that copies
 
 -- the declarations at the first i places are copied
 pub record Copied (t places out₀ out : List ℕ) (count i : ℕ) : Type 0 where
-  pub counted : count ≡ length (all_records (decode t) (take i places))
+  pub counted : count ≡ length (all_records t (take i places))
   pub made : out ≡ written out₀ 0 (all_bytes t (take i places))
 
 pub copy_start : (t places out : List ℕ) → Copied t places out out 0 0
 unfolding all_bytes all_records
 copy_start t places out = record { counted = refl; made = refl }
 
-module _ (t places out₀ : List ℕ) (h : Placed (decode t) places out₀) where
-  pub place_at : (i : ℕ) → i < length places → get_or places i 0 < length (decode t)
+module _ (t places out₀ : List ℕ) (h : Placed t places out₀) where
+  pub place_at : (i : ℕ) → i < length places → get_or places i 0 < length t
   place_at i l = h.within (get_or places i 0) (mem-at places i l)
 
-  before-in : (i d : ℕ) → Memᴰ d (take i places) → d < length (decode t)
+  before-in : (i d : ℕ) → Memᴰ d (take i places) → d < length t
   before-in i d m = h.within d (subst (λ (x : List ℕ). Memᴰ d x) (take-append-drop i places) (Memᴰ.append_left (drop i places) m))
 
   -- the records so far fit
-  fits-at : (i : ℕ) → 40 * length (all_records (decode t) (take i places)) ≤ length out₀
+  fits-at : (i : ℕ) → 40 * length (all_records t (take i places)) ≤ length out₀
   fits-at i =
-      let z = ap (λ (x : List ℕ). length (all_records (decode t) x)) (sym (take-append-drop i places)) ∙ ap length (records-append-all (decode t) (take i places) (drop i places)) in
-      omega (arith, z, h.fits, length-append (all_records (decode t) (take i places)) (all_records (decode t) (drop i places)))
+      let z = ap (λ (x : List ℕ). length (all_records t x)) (sym (take-append-drop i places)) ∙ ap length (records-append-all t (take i places) (drop i places)) in
+      omega (arith, z, h.fits, length-append (all_records t (take i places)) (all_records t (drop i places)))
 
   module _ {out : List ℕ} {count i : ℕ} (c : Copied t places out₀ out count i) where
     front : 0 + length (all_bytes t (take i places)) ≡ 40 * count
@@ -161,13 +161,13 @@ module _ (t places out₀ : List ℕ) (h : Placed (decode t) places out₀) wher
     pub copied-long : length out ≡ length out₀
     copied-long = ap length c.made ∙ length-written out₀ 0 (all_bytes t (take i places)) room
 
-    module _ (l : i < length places) {m : ℕ} (me : m ≡ member_count (decode t) (get_or places i 0)) where
-      turn-count : count + (1 + m) ≡ length (all_records (decode t) (take (i + 1) places))
+    module _ (l : i < length places) {m : ℕ} (me : m ≡ member_count t (get_or places i 0)) where
+      turn-count : count + (1 + m) ≡ length (all_records t (take (i + 1) places))
       turn-count =
-          sym (ap (λ (x : List ℕ). length (all_records (decode t) x)) (ap (λ (k : ℕ). take k places) (add-one i) ∙ take-suc places i 0 l)
-          ∙ ap length (records-snoc (decode t) (take i places) (get_or places i 0))
-          ∙ length-append (all_records (decode t) (take i places)) (decl_records (decode t) (get_or places i 0))
-          ∙ omega (arith, c.counted, me, decl-length (decode t) (get_or places i 0) (place_at i l)))
+          sym (ap (λ (x : List ℕ). length (all_records t x)) (ap (λ (k : ℕ). take k places) (add-one i) ∙ take-suc places i 0 l)
+          ∙ ap length (records-snoc t (take i places) (get_or places i 0))
+          ∙ length-append (all_records t (take i places)) (decl_records t (get_or places i 0))
+          ∙ omega (arith, c.counted, me, decl-length t (get_or places i 0) (place_at i l)))
 
       pub copy-call : (40 * (get_or places i 0 + (1 + m)) ≤ length t) × (40 * (count + (1 + m)) ≤ length out)
       copy-call = (
@@ -185,5 +185,5 @@ module _ (t places out₀ : List ℕ) (h : Placed (decode t) places out₀) wher
             (written-more out₀ (all_bytes t (take i places)) (decl_bytes t (get_or places i 0)) 0 room);
       }
 
-    pub copy-end : length places ≤ i → (count ≡ length (all_records (decode t) places)) × (out ≡ written out₀ 0 (all_bytes t places))
+    pub copy-end : length places ≤ i → (count ≡ length (all_records t places)) × (out ≡ written out₀ 0 (all_bytes t places))
     copy-end l = let z : take i places ≡ places = take_all i places l in (rw z at c.counted, rw z at c.made)

@@ -1,7 +1,6 @@
 -- What the contract of pass 2 says: what the faults are, and what the records copied.
 use Rattle.std.specs.Prelude.{◌≡◌, ℕ, ◌+◌, ◌*◌, ◌<◌, ◌≤◌, length, take, drop, Ok, Err, Result}
 use mathlib.Core.List.{List, [], ◌∷◌, ◌++◌, Memᴰ}
-use Rattle.rules.specs.Table.{decode}
 use Rattle.rules.specs.Bytes.{written}
 use Rattle.rules.specs.Places.{member_count}
 use Rattle.rules.specs.Faults.{log, logged}
@@ -13,7 +12,7 @@ use Rattle.faults.specs.Notes.{no_faults}
 
 -- the bytes of the declarations at these places, in this order, unchanged
 unfoldable pub decl_bytes : List ℕ → ℕ → List ℕ
-decl_bytes t d = take (40 * (1 + member_count (decode t) d)) (drop (40 * d) t)
+decl_bytes t d = take (40 * (1 + member_count t d)) (drop (40 * d) t)
 
 unfoldable pub all_bytes : List ℕ → List ℕ → List ℕ
 all_bytes t [] = []
@@ -26,14 +25,14 @@ pub record Placed (rs : List Record) (l out : List ℕ) : Type 0 where
 
 -- the n listed records stand at the start of the buffer, which is unchanged behind them
 pub record ListedAtStart (t out out' : List ℕ) (n : ℕ) : Type 0 where
-  pub count : n ≡ length (ordered (decode t))
-  pub short : n ≤ length (decode t)
-  pub bytes : out' ≡ written out 0 (all_bytes t (order (decode t)))
-  pub records : decode (take (40 * n) out') ≡ ordered (decode t)
+  pub count : n ≡ length (ordered t)
+  pub short : n ≤ length t
+  pub bytes : out' ≡ written out 0 (all_bytes t (order t))
+  pub records : decode (take (40 * n) out') ≡ ordered t
 
 -- the faults of pass 2; if there are none, the listed table, else the buffer as it was
 abbrev pub DeclIdentifiersChecked : List ℕ → List ℕ → List ℕ → List ℕ → List ℕ → Result ℕ Tally → Type 0
 DeclIdentifiersChecked t buffer out buffer' out' (Ok n) =
-    Accepts (decode t) × (log no_faults buffer' ≡ logged buffer (pass2 (decode t))) × ListedAtStart t out out' n
+    Accepts t × (log no_faults buffer' ≡ logged buffer (pass2 t)) × ListedAtStart t out out' n
 DeclIdentifiersChecked t buffer out buffer' out' (Err y) =
-    ¬ (Accepts (decode t)) × (log y buffer' ≡ logged buffer (pass2 (decode t))) × (out' ≡ out)
+    ¬ (Accepts t) × (log y buffer' ≡ logged buffer (pass2 t)) × (out' ≡ out)

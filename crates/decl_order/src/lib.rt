@@ -2,20 +2,19 @@
 #![tactic(auto)]
 
 ghost use Rattle.std.specs.Prelude.{◌≡◌, ◌*◌, ◌≤◌, length, take};
-ghost use Rattle.rules.specs.Table.{decode};
 ghost use Rattle.rules.specs.Bytes.{written};
 ghost use Rattle.rules.specs.DeclIdentifiers.{all_records};
 ghost use Rattle.declarations.specs.Starts.{Starts};
 ghost use Rattle.decl_order.specs.Contract.{all_bytes, Placed, DeclIdentifiersChecked};
 
-use rules::Tally;
+use rules::{Record, Tally};
 use rules::limits::MOST_RECORDS;
 use table::{NO_PLACE, REMAINDERS};
 
 // Copies the records of the declarations at these places to the start of out. Returns how many records they are.
-fn copy_listed(table: &[u8], places: &[u16], out: &mut [u8]) -> usize
-    requires { Placed (decode table.now) places.now out.old }
-    ensures { (result ≡ length (all_records (decode table.now) places.now)) × (out.new ≡ written out.old 0 (all_bytes table.now places.now)) }
+fn copy_listed(table: &[Record], places: &[u16], out: &mut [u8]) -> usize
+    requires { Placed table.now places.now out.old }
+    ensures { (result ≡ length (all_records table.now places.now)) × (out.new ≡ written out.old 0 (all_bytes table.now places.now)) }
 {
     let mut count = 0;
     for place in places {
@@ -29,15 +28,15 @@ fn copy_listed(table: &[u8], places: &[u16], out: &mut [u8]) -> usize
 
 // The visits, then the copy, if no fault is found.
 fn order_from(
-    table: &[u8],
+    table: &[Record],
     starts: &[u16],
     buffer: &mut [u8],
     out: &mut [u8],
 ) -> Result<usize, Tally>
-    requires { (length (decode table.now) ≤ 1600) × (40 * length (decode table.now) ≤ length out.old) × Starts (decode table.now) starts.now }
+    requires { (length table.now ≤ 1600) × (40 * length table.now ≤ length out.old) × Starts table.now starts.now }
     ensures { DeclIdentifiersChecked table.now buffer.old out.old buffer.new out.new result }
 {
-    let n = table::count(table);
+    let n = table.len();
     let mut marks = [0u8; MOST_RECORDS];
     let mut places = [0u16; MOST_RECORDS];
     let a = decl_visits::visit_all(table, starts, &mut marks[..n], &mut places, buffer);
@@ -50,11 +49,11 @@ fn order_from(
 
 // Pass 2: its faults, or how many records are listed; they then stand at the start of out, all others of its bytes unchanged.
 pub fn check_decl_identifiers(
-    table: &[u8],
+    table: &[Record],
     buffer: &mut [u8],
     out: &mut [u8],
 ) -> Result<usize, Tally>
-    requires { (length (decode table.now) ≤ 1600) × (40 * length (decode table.now) ≤ length out.old) }
+    requires { (length table.now ≤ 1600) × (40 * length table.now ≤ length out.old) }
     ensures { DeclIdentifiersChecked table.now buffer.old out.old buffer.new out.new result }
 {
     if declarations::starts::is_large(table) {

@@ -1,16 +1,15 @@
 // What a field refers to by a name: nothing, a fault, or a declaration to visit.
 ghost use Rattle.std.specs.Prelude.{◌≡◌};
-ghost use Rattle.rules.specs.Table.{decode};
 ghost use Rattle.declarations.specs.Starts.{Starts};
 ghost use Rattle.rules.specs.DeclIdentifiers.{group_reference, type_reference, field_reference};
 
 use crate::named_reference;
 use declarations::decl_named;
-use rules::{Reference, codes};
+use rules::{Record, Reference, codes};
 
 // The Group field at `place`.
-fn group_reference(table: &[u8], place: usize, found: Option<usize>) -> Reference
-    ensures { result ≡ group_reference (decode table.now) place found }
+fn group_reference(table: &[Record], place: usize, found: Option<usize>) -> Reference
+    ensures { result ≡ group_reference table.now place found }
 {
     let missing = codes::UNDECLARED_GROUP_IDENTIFIER;
     let invalid = codes::INVALID_GROUP_IDENTIFIER;
@@ -25,8 +24,8 @@ fn group_reference(table: &[u8], place: usize, found: Option<usize>) -> Referenc
 }
 
 // The Typedef or typed array at `place`, which may be checked and not followed.
-fn type_reference(followed: bool, table: &[u8], place: usize, found: Option<usize>) -> Reference
-    ensures { result ≡ type_reference followed (decode table.now) place found }
+fn type_reference(followed: bool, table: &[Record], place: usize, found: Option<usize>) -> Reference
+    ensures { result ≡ type_reference followed table.now place found }
 {
     let missing = codes::UNDECLARED_TYPE_IDENTIFIER;
     let invalid = codes::INVALID_TYPE_IDENTIFIER;
@@ -41,11 +40,11 @@ fn type_reference(followed: bool, table: &[u8], place: usize, found: Option<usiz
 }
 
 // The record at `place`, as a field.
-pub fn field_reference(table: &[u8], starts: &[u16], place: usize) -> Reference
-    requires { Starts (decode table.now) starts.now }
-    ensures { result ≡ field_reference (decode table.now) place }
+pub fn field_reference(table: &[Record], starts: &[u16], place: usize) -> Reference
+    requires { Starts table.now starts.now }
+    ensures { result ≡ field_reference table.now place }
 {
-    let r = records::at(table, place);
+    let r = table::at(table, place);
     if r.kind == kinds::GROUP_FIELD {
         return group_reference(table, place, decl_named(table, starts, r.second));
     }

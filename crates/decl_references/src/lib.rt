@@ -4,13 +4,12 @@
 pub mod field_references;
 
 ghost use Rattle.std.specs.Prelude.{◌≡◌, ℕ, Bool, Option};
-ghost use Rattle.rules.specs.Table.{decode};
 ghost use Rattle.declarations.specs.Starts.{Starts};
 ghost use Rattle.decl_references.specs.Named.{named_reference};
 ghost use Rattle.rules.specs.DeclIdentifiers.{parent_reference, test_reference, own_reference, root_reference};
 
 use declarations::decl_named;
-use rules::{Reference, codes};
+use rules::{Record, Reference, codes};
 
 // What the name at `place` refers to, by the declaration found: `missing` is the code where there is none, `invalid` where it
 // is not allowed. An allowed one is followed, or only checked.
@@ -34,8 +33,8 @@ fn named_reference<F: Fn(usize) -> bool>(
 }
 
 // The parent of the declaration at `decl`.
-fn parent_reference(table: &[u8], decl: usize, found: Option<usize>) -> Reference
-    ensures { result ≡ parent_reference (decode table.now) decl found }
+fn parent_reference(table: &[Record], decl: usize, found: Option<usize>) -> Reference
+    ensures { result ≡ parent_reference table.now decl found }
 {
     let missing = codes::UNDECLARED_PARENT_IDENTIFIER;
     let invalid = codes::INVALID_PARENT_IDENTIFIER;
@@ -51,8 +50,8 @@ fn parent_reference(table: &[u8], decl: usize, found: Option<usize>) -> Referenc
 }
 
 // The packet of the test at `place`, which is checked and not followed.
-fn test_reference(table: &[u8], place: usize, found: Option<usize>) -> Reference
-    ensures { result ≡ test_reference (decode table.now) place found }
+fn test_reference(table: &[Record], place: usize, found: Option<usize>) -> Reference
+    ensures { result ≡ test_reference table.now place found }
 {
     let missing = codes::UNDECLARED_TEST_IDENTIFIER;
     let invalid = codes::INVALID_TEST_IDENTIFIER;
@@ -67,11 +66,11 @@ fn test_reference(table: &[u8], place: usize, found: Option<usize>) -> Reference
 }
 
 // The declaration at `decl`, by its parent's name.
-pub fn own_reference(table: &[u8], starts: &[u16], decl: usize) -> Reference
-    requires { Starts (decode table.now) starts.now }
-    ensures { result ≡ own_reference (decode table.now) decl }
+pub fn own_reference(table: &[Record], starts: &[u16], decl: usize) -> Reference
+    requires { Starts table.now starts.now }
+    ensures { result ≡ own_reference table.now decl }
 {
-    let r = records::at(table, decl);
+    let r = table::at(table, decl);
     if kinds::is_packet_or_struct(r.kind) & !(r.second == 0) {
         return parent_reference(table, decl, decl_named(table, starts, r.second));
     }
@@ -79,11 +78,11 @@ pub fn own_reference(table: &[u8], starts: &[u16], decl: usize) -> Reference
 }
 
 // The record at `place`, in table order: a declaration is visited, a test is checked.
-pub fn root_reference(table: &[u8], starts: &[u16], place: usize) -> Reference
-    requires { Starts (decode table.now) starts.now }
-    ensures { result ≡ root_reference (decode table.now) place }
+pub fn root_reference(table: &[Record], starts: &[u16], place: usize) -> Reference
+    requires { Starts table.now starts.now }
+    ensures { result ≡ root_reference table.now place }
 {
-    let r = records::at(table, place);
+    let r = table::at(table, place);
     if kinds::is_named_decl(r.kind) {
         return Reference::Follow(place);
     }

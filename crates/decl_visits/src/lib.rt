@@ -3,7 +3,7 @@
 #![tactic(auto)]
 
 ghost use Rattle.std.specs.Prelude.{◌≡◌, ◌+◌, ◌-◌, ◌^◌, ◌≤◌, ◌<◌, length, set, replicate};
-ghost use Rattle.rules.specs.Table.{decode, at};
+ghost use Rattle.rules.specs.Table.{at};
 ghost use Rattle.rules.specs.Faults.{single, log};
 ghost use Rattle.rules.specs.DeclIdentifiers.{visited};
 ghost use Rattle.faults.specs.Notes.{noted};
@@ -12,7 +12,7 @@ ghost use Rattle.decl_visits.specs.Contract.{StateHeld, VisitReady, Within, Visi
 
 use decl_references::field_references::field_reference;
 use decl_references::{own_reference, root_reference};
-use rules::{Reference, Tally, codes};
+use rules::{Record, Reference, Tally, codes};
 
 // The marks of declarations. They stay numbers, as the rules' `State` has them: each clause would have to map an enum's.
 const UNVISITED: u8 = 0;
@@ -30,11 +30,11 @@ pub struct VisitProgress {
 
 impl VisitProgress {
     // One fault more, at the record at `place`.
-    fn note(&mut self, table: &[u8], buffer: &mut [u8], code: u16, place: usize)
+    fn note(&mut self, table: &[Record], buffer: &mut [u8], code: u16, place: usize)
         requires { self.old.tally.total + 1 < 2 ^ 64 }
-        ensures { (self.new.listed ≡ self.old.listed) × (log self.new.tally buffer.new ≡ noted (log self.old.tally buffer.old) (single code (at (decode table.now) place))) }
+        ensures { (self.new.listed ≡ self.old.listed) × (log self.new.tally buffer.new ≡ noted (log self.old.tally buffer.old) (single code (at table.now place))) }
     {
-        let f = faults::fault::single(code, records::at(table, place));
+        let f = faults::fault::single(code, table::at(table, place));
         faults::notes::note(&mut self.tally, buffer, f);
     }
 
@@ -52,7 +52,7 @@ impl VisitProgress {
 // Takes up a reference: a declaration is visited, a fault is noted.
 #[cycle(visit_walk)]
 fn take_up(
-    table: &[u8],
+    table: &[Record],
     starts: &[u16],
     reference: Reference,
     marks: &mut [u8],
@@ -60,8 +60,8 @@ fn take_up(
     buffer: &mut [u8],
     progress: &mut VisitProgress,
 )
-    requires { Within (length (decode table.now)) reference × VisitReady (decode table.now) marks.old places.old buffer.old progress.old 1 0 × Starts (decode table.now) starts.now }
-    ensures { Visited (decode table.now) reference marks.old places.old buffer.old progress.old marks.new places.new buffer.new progress.new }
+    requires { Within (length table.now) reference × VisitReady table.now marks.old places.old buffer.old progress.old 1 0 × Starts table.now starts.now }
+    ensures { Visited table.now reference marks.old places.old buffer.old progress.old marks.new places.new buffer.new progress.new }
 {
     match reference {
         Reference::Follow(d) => visit(table, starts, d, marks, places, buffer, progress),
@@ -73,7 +73,7 @@ fn take_up(
 // Visits the declaration at `decl`: what its fields refer to, then its parent, then `decl` is listed.
 #[cycle(visit_walk)]
 fn visit(
-    table: &[u8],
+    table: &[Record],
     starts: &[u16],
     decl: usize,
     marks: &mut [u8],
@@ -81,8 +81,8 @@ fn visit(
     buffer: &mut [u8],
     progress: &mut VisitProgress,
 )
-    requires { (decl < length (decode table.now)) × VisitReady (decode table.now) marks.old places.old buffer.old progress.old 1 0 × Starts (decode table.now) starts.now }
-    ensures { Visited (decode table.now) (Reference.Follow decl) marks.old places.old buffer.old progress.old marks.new places.new buffer.new progress.new }
+    requires { (decl < length table.now) × VisitReady table.now marks.old places.old buffer.old progress.old 1 0 × Starts table.now starts.now }
+    ensures { Visited table.now (Reference.Follow decl) marks.old places.old buffer.old progress.old marks.new places.new buffer.new progress.new }
 {
     let m = marks[decl];
     if m == UNVISITED {
@@ -99,7 +99,7 @@ fn visit(
 // Takes up what the fields from `place` on refer to, up to the next declaration.
 #[cycle(visit_walk)]
 fn walk(
-    table: &[u8],
+    table: &[Record],
     starts: &[u16],
     place: usize,
     marks: &mut [u8],
@@ -107,10 +107,10 @@ fn walk(
     buffer: &mut [u8],
     progress: &mut VisitProgress,
 )
-    requires { VisitReady (decode table.now) marks.old places.old buffer.old progress.old (length (decode table.now) - place) 0 × Starts (decode table.now) starts.now }
-    ensures { Walked (decode table.now) place marks.old places.old buffer.old progress.old marks.new places.new buffer.new progress.new }
+    requires { VisitReady table.now marks.old places.old buffer.old progress.old (length table.now - place) 0 × Starts table.now starts.now }
+    ensures { Walked table.now place marks.old places.old buffer.old progress.old marks.new places.new buffer.new progress.new }
 {
-    for q in place..table::count(table) {
+    for q in place..table.len() {
         let k = table::kind(table, q);
         if kinds::is_decl(k) {
             return;
@@ -125,20 +125,20 @@ fn walk(
 
 // Takes up what each record refers to, in table order. The first listed places of `places` are the order.
 pub fn visit_all(
-    table: &[u8],
+    table: &[Record],
     starts: &[u16],
     marks: &mut [u8],
     places: &mut [u16],
     buffer: &mut [u8],
 ) -> VisitProgress
-    requires { (length (decode table.now) ≤ 1600) × (marks.old ≡ replicate (length (decode table.now)) 0) × (length (decode table.now) ≤ length places.old) × Starts (decode table.now) starts.now }
-    ensures { StateHeld (decode table.now) places.old buffer.old (visited (decode table.now)) marks.new places.new buffer.new result }
+    requires { (length table.now ≤ 1600) × (marks.old ≡ replicate (length table.now) 0) × (length table.now ≤ length places.old) × Starts table.now starts.now }
+    ensures { StateHeld table.now places.old buffer.old (visited table.now) marks.new places.new buffer.new result }
 {
     let mut progress = VisitProgress {
         listed: 0,
         tally: faults::no_faults(),
     };
-    for p in 0..table::count(table) {
+    for p in 0..table.len() {
         let r = root_reference(table, starts, p);
         take_up(table, starts, r, marks, places, buffer, &mut progress);
     }

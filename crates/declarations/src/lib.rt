@@ -4,12 +4,12 @@
 pub mod starts;
 
 ghost use Rattle.std.specs.Prelude.{◌≡◌, ◌%◌, get_or};
-ghost use Rattle.rules.specs.Table.{decode, at};
+ghost use Rattle.rules.specs.Table.{at};
 ghost use Rattle.rules.specs.Places.{nearest, holds_at, decl_named};
 ghost use Rattle.rules.specs.declared.Target.TheVariants.{DeclNamed};
 ghost use Rattle.declarations.specs.Starts.{Starts};
 
-use rules::Target;
+use rules::{Record, Target};
 use table::DIVISOR;
 
 // The start for a name: place 0 where the array has none.
@@ -21,20 +21,20 @@ fn start(starts: &[u16], name: u16) -> usize
 }
 
 // The declaration of a name.
-pub fn decl_named(table: &[u8], starts: &[u16], name: u16) -> Option<usize>
-    requires { Starts (decode table.now) starts.now }
-    ensures { result ≡ decl_named (decode table.now) name }
+pub fn decl_named(table: &[Record], starts: &[u16], name: u16) -> Option<usize>
+    requires { Starts table.now starts.now }
+    ensures { result ≡ decl_named table.now name }
 {
     search::first(table, Target::DeclNamed(name), start(starts, name))
 }
 
 // The nearest declaration before `place` that has the name of the record at `place`.
-pub fn earlier(table: &[u8], starts: &[u16], place: usize) -> Option<usize>
-    requires { Starts (decode table.now) starts.now }
-    ensures { result ≡ nearest (holds_at (decode table.now) (DeclNamed (at (decode table.now) place).name)) place }
+pub fn earlier(table: &[Record], starts: &[u16], place: usize) -> Option<usize>
+    requires { Starts table.now starts.now }
+    ensures { result ≡ nearest (holds_at table.now (DeclNamed (at table.now place).name)) place }
 {
-    let name = table::name(table, place);
-    if (start(starts, name) == place) & (place < table::count(table)) {
+    let name = table::at(table, place).name;
+    if (start(starts, name) == place) & (place < table.len()) {
         return None;
     }
     search::nearest(table, Target::DeclNamed(name), place)

@@ -2,23 +2,22 @@
 #![tactic(auto)]
 
 ghost use Rattle.std.specs.Prelude.{◌≡◌, List, ℕ, ◌≤◌, length};
-ghost use Rattle.rules.specs.Table.{decode};
 ghost use Rattle.rules.specs.DesugarFlags.{loose_at, first_loose, desugared};
 ghost use Rattle.rules.specs.Replies.{answered, fitted, flagged};
 ghost use Rattle.flag_sizes.specs.Counts.{Counted};
 
 use rules::limits::{MOST_RECORDS, RECORD_LENGTH};
-use rules::{FieldKey, Reply};
+use rules::{FieldKey, Record, Reply};
 use table::REMAINDERS;
 
 // Whether a condition without a named field or without a value stands at `place`.
-fn loose_at(table: &[u8], place: usize) -> bool
-    ensures { result ≡ loose_at (decode table.now) place }
+fn loose_at(table: &[Record], place: usize) -> bool
+    ensures { result ≡ loose_at table.now place }
 {
     if table::kind(table, place) != kinds::CONDITION {
         return false;
     }
-    let condition = records::at(table, place);
+    let condition = table::at(table, place);
     let field = table::kind(table, flag_sizes::conditions::place_before(place));
     let named = kinds::is_named_field(field);
     let valued = condition.marks & 1 == 1;
@@ -26,16 +25,16 @@ fn loose_at(table: &[u8], place: usize) -> bool
 }
 
 // The first such condition.
-fn find_loose(table: &[u8]) -> Option<usize>
-    ensures { result ≡ first_loose (decode table.now) }
+fn find_loose(table: &[Record]) -> Option<usize>
+    ensures { result ≡ first_loose table.now }
 {
-    (0..table::count(table)).find(|p| loose_at(table, *p))
+    (0..table.len()).find(|p| loose_at(table, *p))
 }
 
 // The table with flags, which has `count` records, if it is not too long for the reply or for the buffer.
-fn fitted(table: &[u8], count: usize, counts: &[u16], out: &mut [u8]) -> Reply
-    requires { (length (decode table.now) ≤ 1600) × (count ≡ length (desugared (decode table.now))) × Counted (decode table.now) counts.now (length (decode table.now)) }
-    ensures { (f : List ℕ) → answered result out.new f ≡ fitted (desugared (decode table.now)) out.old f }
+fn fitted(table: &[Record], count: usize, counts: &[u16], out: &mut [u8]) -> Reply
+    requires { (length table.now ≤ 1600) × (count ≡ length (desugared table.now)) × Counted table.now counts.now (length table.now) }
+    ensures { (f : List ℕ) → answered result out.new f ≡ fitted (desugared table.now) out.old f }
 {
     if MOST_RECORDS < count {
         return Reply::Overlisted;
@@ -49,13 +48,13 @@ fn fitted(table: &[u8], count: usize, counts: &[u16], out: &mut [u8]) -> Reply
 }
 
 // Makes the flags of an inlined table: the rows from Loose on. Only an accepted table is written.
-pub fn desugar_flags(table: &[u8], out: &mut [u8]) -> Reply
-    requires { length (decode table.now) ≤ 1600 }
-    ensures { (f : List ℕ) → answered result out.new f ≡ flagged (decode table.now) out.old f }
+pub fn desugar_flags(table: &[Record], out: &mut [u8]) -> Reply
+    requires { length table.now ≤ 1600 }
+    ensures { (f : List ℕ) → answered result out.new f ≡ flagged table.now out.old f }
 {
     match find_loose(table) {
         Some(q) => {
-            let field = records::at(table, flag_sizes::conditions::place_before(q));
+            let field = table::at(table, flag_sizes::conditions::place_before(q));
             Reply::Loose(FieldKey(field.key))
         }
         None => {

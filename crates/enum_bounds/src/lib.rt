@@ -5,18 +5,18 @@ pub mod range;
 
 ghost use Rattle.std.specs.Prelude.{◌≡◌, ◌≤◌, leb, length, take, count_by};
 ghost use Rattle.std.specs.List.Sorted.{IsNonDecreasing};
-ghost use Rattle.rules.specs.Table.{decode};
 ghost use Rattle.enum_bounds.specs.Bounds.{holders, lows_of, highs_of};
 
 use range::{greater, lesser};
+use rules::Record;
 
 // The bounds of the ranges at the places of `places`.
-pub fn fill(table: &[u8], places: &[u16], lows: &mut [u64], highs: &mut [u64])
+pub fn fill(table: &[Record], places: &[u16], lows: &mut [u64], highs: &mut [u64])
     requires { (length places.now ≤ length lows.old) × (length places.now ≤ length highs.old) }
-    ensures { (take (length places.now) lows.new ≡ lows_of (decode table.now) places.now) × (take (length places.now) highs.new ≡ highs_of (decode table.now) places.now) }
+    ensures { (take (length places.now) lows.new ≡ lows_of table.now places.now) × (take (length places.now) highs.new ≡ highs_of table.now places.now) }
 {
     for (j, place) in places.iter().enumerate() {
-        let r = records::at(table, usize::from(*place));
+        let r = table::at(table, usize::from(*place));
         lows[j] = lesser(r);
         highs[j] = greater(r);
     }

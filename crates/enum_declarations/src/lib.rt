@@ -2,7 +2,6 @@
 #![tactic(auto)]
 
 ghost use Rattle.std.specs.Prelude.{◌≡◌, ◌+◌, ◌^◌, ◌<◌, ◌≤◌, [], false, length};
-ghost use Rattle.rules.specs.Table.{decode};
 ghost use Rattle.rules.specs.Faults.{log, logged};
 ghost use Rattle.rules.specs.EnumDeclarations.{tags_faults, enum_faults, pass4_at, pass4};
 ghost use Rattle.faults.specs.Notes.{noted_all};
@@ -10,7 +9,7 @@ ghost use Rattle.faults.specs.Notes.{noted_all};
 use enum_bounds::RangeBounds;
 use enum_tags::{EnumTags, MarkedTags};
 use repeats::marks::Compared;
-use rules::Tally;
+use rules::{Record, Tally};
 use rules::limits::MOST_RECORDS;
 
 // Room for the places of the ranges of an enum, and for their bounds.
@@ -24,7 +23,7 @@ struct Room {
 // The tags of an enum.
 fn note_tags(tags: &EnumTags, tally: Tally, buffer: &mut [u8]) -> Tally
     requires { (tags.now.decl + 1 + tags.now.count ≤ 1600) × (tally.total + 3000000 < 2 ^ 64) }
-    ensures { log result buffer.new ≡ noted_all (log tally buffer.old) (tags_faults (decode tags.now.marked.table.now) tags.now.decl tags.now.count) }
+    ensures { log result buffer.new ≡ noted_all (log tally buffer.old) (tags_faults tags.now.marked.table.now tags.now.decl tags.now.count) }
 {
     let mut kept = tally;
     let mut after = tags.decl + 1;
@@ -46,7 +45,7 @@ fn note_enum(
     buffer: &mut [u8],
 ) -> Tally
     requires { (decl + 1 + count ≤ 1600) × (tally.total + 4000000 < 2 ^ 64) }
-    ensures { log result buffer.new ≡ noted_all (log tally buffer.old) (enum_faults (decode marked.now.table.now) decl count) }
+    ensures { log result buffer.new ≡ noted_all (log tally buffer.old) (enum_faults marked.now.table.now decl count) }
 {
     let m = enum_ranges::arrange(
         marked.table,
@@ -79,8 +78,8 @@ fn note_place(
     tally: Tally,
     buffer: &mut [u8],
 ) -> Tally
-    requires { (decl < length (decode marked.now.table.now)) × (length (decode marked.now.table.now) ≤ 1600) × (tally.total + 4000000 < 2 ^ 64) }
-    ensures { log result buffer.new ≡ noted_all (log tally buffer.old) (pass4_at (decode marked.now.table.now) decl) }
+    requires { (decl < length marked.now.table.now) × (length marked.now.table.now ≤ 1600) × (tally.total + 4000000 < 2 ^ 64) }
+    ensures { log result buffer.new ≡ noted_all (log tally buffer.old) (pass4_at marked.now.table.now decl) }
 {
     if table::kind(marked.table, decl) != kinds::ENUM {
         return tally;
@@ -91,27 +90,27 @@ fn note_place(
 
 // All enums.
 fn note_enums(marked: &MarkedTags, room: &mut Room, buffer: &mut [u8]) -> Tally
-    requires { length (decode marked.now.table.now) ≤ 1600 }
-    ensures { log result buffer.new ≡ logged buffer.old (pass4 (decode marked.now.table.now)) }
+    requires { length marked.now.table.now ≤ 1600 }
+    ensures { log result buffer.new ≡ logged buffer.old (pass4 marked.now.table.now) }
 {
     let mut tally = faults::no_faults();
-    for d in 0..table::count(marked.table) {
+    for d in 0..marked.table.len() {
         tally = note_place(marked, d, room, tally, buffer);
     }
     tally
 }
 
 // Whether there is an enum at all.
-fn has_enum(table: &[u8]) -> bool
-    ensures { result ≡ false → pass4 (decode table.now) ≡ [] }
+fn has_enum(table: &[Record]) -> bool
+    ensures { result ≡ false → pass4 table.now ≡ [] }
 {
-    (0..table::count(table)).any(|d| table::kind(table, d) == kinds::ENUM)
+    (0..table.len()).any(|d| table::kind(table, d) == kinds::ENUM)
 }
 
 // All faults of pass 4, with arrays for the longest table.
-fn check_all(table: &[u8], buffer: &mut [u8]) -> Tally
-    requires { length (decode table.now) ≤ 1600 }
-    ensures { log result buffer.new ≡ logged buffer.old (pass4 (decode table.now)) }
+fn check_all(table: &[Record], buffer: &mut [u8]) -> Tally
+    requires { length table.now ≤ 1600 }
+    ensures { log result buffer.new ≡ logged buffer.old (pass4 table.now) }
 {
     let mut names = [1u8; MOST_RECORDS];
     let mut values = [1u8; MOST_RECORDS];
@@ -132,9 +131,9 @@ fn check_all(table: &[u8], buffer: &mut [u8]) -> Tally
 
 // All faults of pass 4. Without a bound on the table their number, which grows with the product of values and ranges, would not fit the
 // total. Without an enum no array is cleared.
-pub fn check_enum_declarations(table: &[u8], buffer: &mut [u8]) -> Tally
-    requires { length (decode table.now) ≤ 1600 }
-    ensures { log result buffer.new ≡ logged buffer.old (pass4 (decode table.now)) }
+pub fn check_enum_declarations(table: &[Record], buffer: &mut [u8]) -> Tally
+    requires { length table.now ≤ 1600 }
+    ensures { log result buffer.new ≡ logged buffer.old (pass4 table.now) }
 {
     if !has_enum(table) {
         return faults::no_faults();

@@ -1,21 +1,20 @@
 // Overlaps: neighbours among the sorted ranges of an enum that share a value.
 ghost use Rattle.std.specs.Prelude.{◌≡◌, ◌+◌, ◌^◌, ◌<◌, ◌≤◌, length};
 ghost use Rattle.std.specs.Option.{option_to_list};
-ghost use Rattle.rules.specs.Table.{decode};
 ghost use Rattle.rules.specs.Faults.{log};
 ghost use Rattle.rules.specs.EnumDeclarations.{overlap, overlaps};
 ghost use Rattle.faults.specs.Notes.{noted_all};
 
 use enum_bounds::range::{greater, lesser};
 use faults::when;
-use rules::{Fault, Tally, codes};
+use rules::{Fault, Record, Tally, codes};
 
 // 41 at `right` where the ranges at `left` and `right` share a value.
-fn overlap(table: &[u8], left: u16, right: u16) -> Option<Fault>
-    ensures { option_to_list result ≡ overlap (decode table.now) left right }
+fn overlap(table: &[Record], left: u16, right: u16) -> Option<Fault>
+    ensures { option_to_list result ≡ overlap table.now left right }
 {
-    let r = records::at(table, usize::from(left));
-    let s = records::at(table, usize::from(right));
+    let r = table::at(table, usize::from(left));
+    let s = table::at(table, usize::from(right));
     when(
         (lesser(s) <= greater(r)) & (lesser(r) <= greater(s)),
         faults::fault::double(codes::DUPLICATE_TAG_RANGE, s, r),
@@ -23,9 +22,9 @@ fn overlap(table: &[u8], left: u16, right: u16) -> Option<Fault>
 }
 
 // 41 for each two neighbours of `places`.
-pub fn note_overlaps(table: &[u8], places: &[u16], tally: Tally, buffer: &mut [u8]) -> Tally
+pub fn note_overlaps(table: &[Record], places: &[u16], tally: Tally, buffer: &mut [u8]) -> Tally
     requires { (length places.now ≤ 1600) × (tally.total + 1601 < 2 ^ 64) }
-    ensures { log result buffer.new ≡ noted_all (log tally buffer.old) (overlaps (decode table.now) places.now) }
+    ensures { log result buffer.new ≡ noted_all (log tally buffer.old) (overlaps table.now places.now) }
 {
     let mut kept = tally;
     for j in 0..places.len().saturating_sub(1) {

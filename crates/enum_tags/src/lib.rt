@@ -3,7 +3,7 @@
 
 ghost use Rattle.std.specs.Prelude.{◌≡◌, [], ◌∷◌, ◌++◌, ◌+◌, ◌^◌, ◌<◌, ◌≤◌};
 ghost use Rattle.std.specs.Option.{option_to_list};
-ghost use Rattle.rules.specs.Table.{decode, at};
+ghost use Rattle.rules.specs.Table.{at};
 ghost use Rattle.rules.specs.Places.{each};
 ghost use Rattle.rules.specs.Faults.{log};
 ghost use Rattle.rules.specs.declared.Target.TheVariants.{TagOrDecl};
@@ -25,11 +25,11 @@ use rules::{Fault, Record, Tally, Target, codes};
 // A table, with marks of the tags that may repeat an earlier name or value of their enum.
 #[derive(Clone, Copy)]
 pub struct MarkedTags<'a> {
-    pub table: &'a [u8],
+    pub table: &'a [Record],
     pub names: &'a [u8],
     pub values: &'a [u8],
-    pub ghost names_marked: { Marked (decode table.now) TagNames names.now } by { Prim.hlevel props },
-    pub ghost values_marked: { Marked (decode table.now) TagValues values.now } by { Prim.hlevel props },
+    pub ghost names_marked: { Marked table.now TagNames names.now } by { Prim.hlevel props },
+    pub ghost values_marked: { Marked table.now TagValues values.now } by { Prim.hlevel props },
 }
 
 // The tags of the enum at `decl`, which has `count` of them, with the bounds of its ranges.
@@ -40,15 +40,15 @@ pub struct EnumTags<'a, 'b> {
     pub count: usize,
     pub bounds: RangeBounds<'b>,
     pub ghost few: { count ≤ 1600 },
-    pub ghost bounded: { Bounds (decode marked.table.now) decl count bounds.lows.now bounds.highs.now } by { Prim.hlevel props },
+    pub ghost bounded: { Bounds marked.table.now decl count bounds.lows.now bounds.highs.now } by { Prim.hlevel props },
 }
 
 // The range that a search found.
-fn range_found(table: &[u8], found: Option<usize>) -> Record
-    ensures { result ≡ range_found (decode table.now) found }
+fn range_found(table: &[Record], found: Option<usize>) -> Record
+    ensures { result ≡ range_found table.now found }
 {
     match found {
-        Some(q) => records::at(table, q),
+        Some(q) => table::at(table, q),
         None => Record::default(),
     }
 }
@@ -71,7 +71,7 @@ fn note_three(
 
 // 12 where the name of the tag at `place` is that of an earlier tag.
 fn name_again(marked: &MarkedTags, place: usize) -> Option<Fault>
-    ensures { option_to_list result ≡ again 12 (decode marked.now.table.now) (TagOrDecl (at (decode marked.now.table.now) place).name) place }
+    ensures { option_to_list result ≡ again 12 marked.now.table.now (TagOrDecl (at marked.now.table.now place).name) place }
 {
     again_marked(
         codes::DUPLICATE_TAG_IDENTIFIER,
@@ -92,9 +92,9 @@ fn note_value(
     buffer: &mut [u8],
 ) -> Tally
     requires { tally.total + 4 < 2 ^ 64 }
-    ensures { log result buffer.new ≡ noted_all (log tally buffer.old) (value_faults (decode marked.now.table.now) low high place) }
+    ensures { log result buffer.new ≡ noted_all (log tally buffer.old) (value_faults marked.now.table.now low high place) }
 {
-    let r = records::at(marked.table, place);
+    let r = table::at(marked.table, place);
     let v = r.one;
     let x = name_again(marked, place);
     let y = again_marked(
@@ -126,9 +126,9 @@ fn note_times(fault: Fault, times: usize, tally: Tally, buffer: &mut [u8]) -> Ta
 // 43 for each range of the enum that holds the value at `place`.
 fn note_held(tags: &EnumTags, place: usize, tally: Tally, buffer: &mut [u8]) -> Tally
     requires { tally.total + 1601 < 2 ^ 64 }
-    ensures { log result buffer.new ≡ noted_all (log tally buffer.old) (held (decode tags.now.marked.table.now) tags.now.decl tags.now.count place) }
+    ensures { log result buffer.new ≡ noted_all (log tally buffer.old) (held tags.now.marked.table.now tags.now.decl tags.now.count place) }
 {
-    let r = records::at(tags.marked.table, place);
+    let r = table::at(tags.marked.table, place);
     let count = holders(&tags.bounds, r.one);
     note_times(faults::fault::single(codes::E43, r), count, tally, buffer)
 }
@@ -142,9 +142,9 @@ fn note_range(
     buffer: &mut [u8],
 ) -> Tally
     requires { tally.total + 4 < 2 ^ 64 }
-    ensures { log result buffer.new ≡ noted_all (log tally buffer.old) (range_faults (decode marked.now.table.now) most place) }
+    ensures { log result buffer.new ≡ noted_all (log tally buffer.old) (range_faults marked.now.table.now most place) }
 {
-    let r = records::at(marked.table, place);
+    let r = table::at(marked.table, place);
     let low = r.one;
     let high = r.two;
     let x = name_again(marked, place);
@@ -157,7 +157,7 @@ fn note_range(
 // A default tag: 12, 44.
 fn note_default(marked: &MarkedTags, place: usize, tally: Tally, buffer: &mut [u8]) -> Tally
     requires { tally.total + 4 < 2 ^ 64 }
-    ensures { log result buffer.new ≡ noted_all (log tally buffer.old) (default_faults (decode marked.now.table.now) place) }
+    ensures { log result buffer.new ≡ noted_all (log tally buffer.old) (default_faults marked.now.table.now place) }
 {
     let x = name_again(marked, place);
     let y = again(
@@ -177,8 +177,8 @@ fn note_inner(
     tally: Tally,
     buffer: &mut [u8],
 ) -> Tally
-    requires { (tally.total + 4 < 2 ^ 64) × (range_before (decode marked.now.table.now) place ≡ range_before (decode marked.now.table.now) after) }
-    ensures { log result buffer.new ≡ noted_all (log tally buffer.old) (inner_faults (decode marked.now.table.now) place) }
+    requires { (tally.total + 4 < 2 ^ 64) × (range_before marked.now.table.now place ≡ range_before marked.now.table.now after) }
+    ensures { log result buffer.new ≡ noted_all (log tally buffer.old) (inner_faults marked.now.table.now place) }
 {
     let r = range_found(
         marked.table,
@@ -188,9 +188,9 @@ fn note_inner(
 }
 
 // Where no range stands from `after` up to `place`, the same for the next place.
-pub fn after_range(table: &[u8], after: usize, place: usize) -> usize
-    requires { (place < 1600) × (range_before (decode table.now) place ≡ range_before (decode table.now) after) }
-    ensures { range_before (decode table.now) (place + 1) ≡ range_before (decode table.now) result }
+pub fn after_range(table: &[Record], after: usize, place: usize) -> usize
+    requires { (place < 1600) × (range_before table.now place ≡ range_before table.now after) }
+    ensures { range_before table.now (place + 1) ≡ range_before table.now result }
 {
     if table::kind(table, place) == kinds::TAG_RANGE {
         return place + 1;
@@ -206,11 +206,11 @@ pub fn note_tag(
     tally: Tally,
     buffer: &mut [u8],
 ) -> Tally
-    requires { (tally.total + 1604 < 2 ^ 64) × (range_before (decode tags.now.marked.table.now) place ≡ range_before (decode tags.now.marked.table.now) after) }
-    ensures { log result buffer.new ≡ noted_all (log tally buffer.old) (tag_faults (decode tags.now.marked.table.now) tags.now.decl tags.now.count place) }
+    requires { (tally.total + 1604 < 2 ^ 64) × (range_before tags.now.marked.table.now place ≡ range_before tags.now.marked.table.now after) }
+    ensures { log result buffer.new ≡ noted_all (log tally buffer.old) (tag_faults tags.now.marked.table.now tags.now.decl tags.now.count place) }
 {
     let marked = &tags.marked;
-    let most = widths::scalar_max(records::at(marked.table, tags.decl).one);
+    let most = widths::scalar_max(table::at(marked.table, tags.decl).one);
     match table::kind(marked.table, place) {
         kinds::TAG_VALUE => {
             let kept = note_value(marked, 0, most, place, tally, buffer);

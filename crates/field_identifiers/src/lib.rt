@@ -3,7 +3,6 @@
 
 ghost use Rattle.std.specs.Prelude.{◌≡◌, ◌+◌, ◌^◌, ◌<◌, ◌≤◌};
 ghost use Rattle.std.specs.Option.{option_to_list};
-ghost use Rattle.rules.specs.Table.{decode};
 ghost use Rattle.rules.specs.Faults.{log, logged};
 ghost use Rattle.rules.specs.FieldIdentifiers.{pass3_at, pass3};
 ghost use Rattle.faults.specs.Notes.{noted_all};
@@ -11,11 +10,11 @@ ghost use Rattle.repeats.specs.Marks.{Marked};
 ghost use Rattle.repeats.specs.declared.marks.Compared.TheVariants.{FieldNames};
 
 use repeats::marks::Compared;
-use rules::{Fault, Tally, codes};
+use rules::{Fault, Record, Tally, codes};
 
-pub fn at_place(table: &[u8], names: &[u8], place: usize) -> Option<Fault>
-    requires { Marked (decode table.now) FieldNames names.now }
-    ensures { option_to_list result ≡ pass3_at (decode table.now) place }
+pub fn at_place(table: &[Record], names: &[u8], place: usize) -> Option<Fault>
+    requires { Marked table.now FieldNames names.now }
+    ensures { option_to_list result ≡ pass3_at table.now place }
 {
     if !kinds::is_named_field(table::kind(table, place)) {
         return None;
@@ -30,9 +29,9 @@ pub fn at_place(table: &[u8], names: &[u8], place: usize) -> Option<Fault>
 }
 
 // Notes what is found at `place`. Mark and kind are tested in one branch: few fields that repeat no name keep their mark.
-fn note_at(table: &[u8], names: &[u8], place: usize, tally: Tally, buffer: &mut [u8]) -> Tally
-    requires { (tally.total + 1 < 2 ^ 64) × Marked (decode table.now) FieldNames names.now }
-    ensures { (log result buffer.new ≡ noted_all (log tally buffer.old) (pass3_at (decode table.now) place)) × (result.total ≤ tally.total + 1) }
+fn note_at(table: &[Record], names: &[u8], place: usize, tally: Tally, buffer: &mut [u8]) -> Tally
+    requires { (tally.total + 1 < 2 ^ 64) × Marked table.now FieldNames names.now }
+    ensures { (log result buffer.new ≡ noted_all (log tally buffer.old) (pass3_at table.now place)) × (result.total ≤ tally.total + 1) }
 {
     let marked = repeats::marks::mark_at(names, place) != 0;
     let named = kinds::is_named_field(table::kind(table, place));
@@ -43,12 +42,12 @@ fn note_at(table: &[u8], names: &[u8], place: usize, tally: Tally, buffer: &mut 
 }
 
 // All faults of the pass.
-pub fn check_field_identifiers(table: &[u8], names: &[u8], buffer: &mut [u8]) -> Tally
-    requires { Marked (decode table.now) FieldNames names.now }
-    ensures { log result buffer.new ≡ logged buffer.old (pass3 (decode table.now)) }
+pub fn check_field_identifiers(table: &[Record], names: &[u8], buffer: &mut [u8]) -> Tally
+    requires { Marked table.now FieldNames names.now }
+    ensures { log result buffer.new ≡ logged buffer.old (pass3 table.now) }
 {
     let mut tally = faults::no_faults();
-    for p in 0..table::count(table) {
+    for p in 0..table.len() {
         tally = note_at(table, names, p, tally, buffer);
     }
     tally

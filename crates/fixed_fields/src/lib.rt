@@ -3,23 +3,22 @@
 
 ghost use Rattle.std.specs.Prelude.{◌≡◌};
 ghost use Rattle.std.specs.Option.{option_to_list};
-ghost use Rattle.rules.specs.Table.{decode};
 ghost use Rattle.rules.specs.FixedFields.{enum_fault, pass6_at};
 ghost use Rattle.declarations.specs.Starts.{Starts};
 
 use faults::when;
-use rules::{Fault, Target, codes};
+use rules::{Fault, Record, Target, codes};
 use search::members::has_member;
 
 // 33, 34, 35 for a missing enum, a missing tag, no enum.
-fn enum_fault(table: &[u8], place: usize, found: Option<usize>) -> Option<Fault>
-    ensures { option_to_list result ≡ enum_fault (decode table.now) place found }
+fn enum_fault(table: &[Record], place: usize, found: Option<usize>) -> Option<Fault>
+    ensures { option_to_list result ≡ enum_fault table.now place found }
 {
-    let r = records::at(table, place);
+    let r = table::at(table, place);
     let Some(d) = found else {
         return Some(faults::fault::single(codes::E33, r));
     };
-    let e = records::at(table, d);
+    let e = table::at(table, d);
     if e.kind != kinds::ENUM {
         return Some(faults::fault::double(codes::E35, r, e));
     }
@@ -29,11 +28,11 @@ fn enum_fault(table: &[u8], place: usize, found: Option<usize>) -> Option<Fault>
     )
 }
 
-pub fn at_place(table: &[u8], starts: &[u16], place: usize) -> Option<Fault>
-    requires { Starts (decode table.now) starts.now }
-    ensures { option_to_list result ≡ pass6_at (decode table.now) place }
+pub fn at_place(table: &[Record], starts: &[u16], place: usize) -> Option<Fault>
+    requires { Starts table.now starts.now }
+    ensures { option_to_list result ≡ pass6_at table.now place }
 {
-    let r = records::at(table, place);
+    let r = table::at(table, place);
     let k = r.kind;
     if k == kinds::FIXED_SCALAR {
         return when(

@@ -5,34 +5,35 @@ pub mod conditions;
 pub mod entries;
 
 ghost use Rattle.std.specs.Prelude.{◌≡◌, ◌+◌, ◌-◌, ◌<◌, ◌≤◌, length};
-ghost use Rattle.rules.specs.Table.{decode, at};
+ghost use Rattle.rules.specs.Table.{at};
 ghost use Rattle.rules.specs.DesugarFlags.{members_start, entries_from, entries_of, condition_at, entries_at, desugared_at, desugared};
 ghost use Rattle.flag_sizes.specs.Counts.{ConditionsStamped, Counted};
 
 use entries::{Naming, Standing};
+use rules::Record;
 use table::DIVISOR;
 
 // Stamps the remainders of the names that the conditions of a declaration give. Its members start at `from`, which is the stamp: no other
 // declaration has it.
-fn mark_conditions(table: &[u8], from: usize, marks: &mut [u16])
+fn mark_conditions(table: &[Record], from: usize, marks: &mut [u16])
     requires { (from ≤ 1600) × (4093 ≤ length marks.old) }
-    ensures { ConditionsStamped (decode table.now) marks.new from }
+    ensures { ConditionsStamped table.now marks.new from }
 {
-    for p in from..table::count(table) {
+    for p in from..table.len() {
         let kind = table::kind(table, p);
         if kinds::is_decl(kind) {
             return;
         }
         if kind == kinds::CONDITION {
-            let h = usize::from(table::name(table, p) % DIVISOR);
+            let h = usize::from(table::at(table, p).name % DIVISOR);
             marks[h] = from as u16;
         }
     }
 }
 
 // How many conditions name `flag`, from place `from` to the end of the declaration.
-fn count_entries(table: &[u8], flag: u16, from: usize) -> usize
-    ensures { result ≡ length (entries_from (decode table.now) flag from) }
+fn count_entries(table: &[Record], flag: u16, from: usize) -> usize
+    ensures { result ≡ length (entries_from table.now flag from) }
 {
     Naming {
         table,
@@ -43,11 +44,11 @@ fn count_entries(table: &[u8], flag: u16, from: usize) -> usize
 }
 
 // How many entries are made for the record at `place`, whose declaration's members start at `members`.
-fn count_made(table: &[u8], marks: &[u16], place: usize, members: usize) -> usize
-    requires { (members ≤ 1600) × ConditionsStamped (decode table.now) marks.now members }
-    ensures { result ≡ length (entries_of (decode table.now) (at (decode table.now) place) members) }
+fn count_made(table: &[Record], marks: &[u16], place: usize, members: usize) -> usize
+    requires { (members ≤ 1600) × ConditionsStamped table.now marks.now members }
+    ensures { result ≡ length (entries_of table.now (at table.now place) members) }
 {
-    let x = table::name(table, place);
+    let x = table::at(table, place).name;
     // No condition of the declaration gives this name: true of most records, of whatever kind, so it is asked first.
     if marks[usize::from(x % DIVISOR)] != members as u16 {
         return 0;
@@ -59,23 +60,23 @@ fn count_made(table: &[u8], marks: &[u16], place: usize, members: usize) -> usiz
 }
 
 // How many entries stand one after another from place `from` on.
-fn count_own(table: &[u8], from: usize) -> usize
-    ensures { result ≡ length (entries_at (decode table.now) from (length (decode table.now) - from)) }
+fn count_own(table: &[Record], from: usize) -> usize
+    ensures { result ≡ length (entries_at table.now from (length table.now - from)) }
 {
     Standing { table, place: from }.count()
 }
 
 // How many conditions stand behind `place`.
-fn count_condition(table: &[u8], place: usize) -> usize
-    ensures { result ≡ length (condition_at (decode table.now) (place + 1)) }
+fn count_condition(table: &[Record], place: usize) -> usize
+    ensures { result ≡ length (condition_at table.now (place + 1)) }
 {
     usize::from(walker::kind_after(table, place) == kinds::CONDITION)
 }
 
 // How many records the record at `place` becomes, for which so many entries are made.
-fn size_at(table: &[u8], place: usize, made: usize) -> usize
-    requires { (length (decode table.now) ≤ 1600) × (place < length (decode table.now)) × (made ≡ length (entries_of (decode table.now) (at (decode table.now) place) (members_start (decode table.now) place))) }
-    ensures { result ≡ length (desugared_at (decode table.now) place) }
+fn size_at(table: &[Record], place: usize, made: usize) -> usize
+    requires { (length table.now ≤ 1600) × (place < length table.now) × (made ≡ length (entries_of table.now (at table.now place) (members_start table.now place))) }
+    ensures { result ≡ length (desugared_at table.now place) }
 {
     if kinds::is_condition_or_entry(table::kind(table, place)) {
         return 0;
@@ -89,9 +90,9 @@ fn size_at(table: &[u8], place: usize, made: usize) -> usize
 }
 
 // Where the members of the declaration start that the next place stands in; if one stands at `place`, its conditions are stamped.
-fn mark_next(table: &[u8], place: usize, members: usize, marks: &mut [u16]) -> usize
-    requires { (place < 1600) × (members ≡ members_start (decode table.now) place) × ConditionsStamped (decode table.now) marks.old members }
-    ensures { (result ≡ members_start (decode table.now) (place + 1)) × ConditionsStamped (decode table.now) marks.new result }
+fn mark_next(table: &[Record], place: usize, members: usize, marks: &mut [u16]) -> usize
+    requires { (place < 1600) × (members ≡ members_start table.now place) × ConditionsStamped table.now marks.old members }
+    ensures { (result ≡ members_start table.now (place + 1)) × ConditionsStamped table.now marks.new result }
 {
     let next = conditions::next_start(table, place, members);
     if next == members {
@@ -102,14 +103,14 @@ fn mark_next(table: &[u8], place: usize, members: usize, marks: &mut [u16]) -> u
 }
 
 // How many records the whole table becomes. The numbers of entries are kept by place, so that writing need not count again.
-pub fn total(table: &[u8], marks: &mut [u16], counts: &mut [u16]) -> usize
-    requires { (length (decode table.now) ≤ 1600) × (4093 ≤ length marks.old) × (1600 ≤ length counts.old) }
-    ensures { (result ≡ length (desugared (decode table.now))) × Counted (decode table.now) counts.new (length (decode table.now)) }
+pub fn total(table: &[Record], marks: &mut [u16], counts: &mut [u16]) -> usize
+    requires { (length table.now ≤ 1600) × (4093 ≤ length marks.old) × (1600 ≤ length counts.old) }
+    ensures { (result ≡ length (desugared table.now)) × Counted table.now counts.new (length table.now) }
 {
     let mut n = 0;
     let mut a = 0;
     mark_conditions(table, 0, marks);
-    for p in 0..table::count(table) {
+    for p in 0..table.len() {
         let made = count_made(table, marks, p, a);
         counts[p] = made as u16;
         n += size_at(table, p, made);

@@ -3,7 +3,7 @@
 
 ghost use Rattle.std.specs.Prelude.{◌≡◌, [], ◌∷◌, ◌++◌, ◌+◌, ◌-◌, ◌<◌, ◌≤◌, length};
 ghost use Rattle.rules.specs.Bytes.{written};
-ghost use Rattle.rules.specs.Table.{decode, encode};
+ghost use Rattle.rules.specs.Table.{encode};
 ghost use Rattle.rules.specs.DesugarFlags.{entry_of, entries_from, flag_of, condition_at, entries_at, own_entries, desugared_at, desugared};
 ghost use Rattle.flag_sizes.specs.Counts.{Counted};
 ghost use Rattle.flag_table.specs.Writing.{WritingAt};
@@ -13,11 +13,11 @@ use flag_sizes::entries::{Naming, Standing};
 use rules::Record;
 
 // The entry of the condition at `place`.
-fn entry_of(table: &[u8], place: usize) -> Record
-    ensures { result ≡ entry_of (decode table.now) place }
+fn entry_of(table: &[Record], place: usize) -> Record
+    ensures { result ≡ entry_of table.now place }
 {
-    let field = records::at(table, flag_sizes::conditions::place_before(place));
-    let condition = records::at(table, place);
+    let field = table::at(table, flag_sizes::conditions::place_before(place));
+    let condition = table::at(table, place);
     Record {
         kind: kinds::FLAG_ENTRY,
         name: field.name,
@@ -50,9 +50,9 @@ fn append(out: &mut [u8], count: usize, r: Record) -> usize
 }
 
 // Writes the entries of the conditions that name `flag`, from place `from` to the end of the declaration.
-fn write_entries(table: &[u8], flag: u16, from: usize, out: &mut [u8], count: usize) -> usize
-    requires { RoomForRecords out.old count (entries_from (decode table.now) flag from) }
-    ensures { RecordsAppended out.old count (entries_from (decode table.now) flag from) out.new result }
+fn write_entries(table: &[Record], flag: u16, from: usize, out: &mut [u8], count: usize) -> usize
+    requires { RoomForRecords out.old count (entries_from table.now flag from) }
+    ensures { RecordsAppended out.old count (entries_from table.now flag from) out.new result }
 {
     let places = Naming {
         table,
@@ -67,25 +67,25 @@ fn write_entries(table: &[u8], flag: u16, from: usize, out: &mut [u8], count: us
 }
 
 // Writes the entries that stand one after another from place `from` on.
-fn write_own(table: &[u8], from: usize, out: &mut [u8], count: usize) -> usize
-    requires { RoomForRecords out.old count (entries_at (decode table.now) from (length (decode table.now) - from)) }
-    ensures { RecordsAppended out.old count (entries_at (decode table.now) from (length (decode table.now) - from)) out.new result }
+fn write_own(table: &[Record], from: usize, out: &mut [u8], count: usize) -> usize
+    requires { RoomForRecords out.old count (entries_at table.now from (length table.now - from)) }
+    ensures { RecordsAppended out.old count (entries_at table.now from (length table.now - from)) out.new result }
 {
     let places = Standing { table, place: from };
     let mut n = count;
     for p in places {
-        n = append(out, n, records::at(table, p));
+        n = append(out, n, table::at(table, p));
     }
     n
 }
 
 // Writes `r` and the condition at `place`, if one stands there.
-fn write_head(table: &[u8], place: usize, r: Record, out: &mut [u8], count: usize) -> usize
-    requires { RoomForRecords out.old count (r ∷ condition_at (decode table.now) place) }
-    ensures { RecordsAppended out.old count (r ∷ condition_at (decode table.now) place) out.new result }
+fn write_head(table: &[Record], place: usize, r: Record, out: &mut [u8], count: usize) -> usize
+    requires { RoomForRecords out.old count (r ∷ condition_at table.now place) }
+    ensures { RecordsAppended out.old count (r ∷ condition_at table.now place) out.new result }
 {
     let n = append(out, count, r);
-    let condition = records::at(table, place);
+    let condition = table::at(table, place);
     if condition.kind == kinds::CONDITION {
         return append(out, n, condition);
     }
@@ -93,9 +93,9 @@ fn write_head(table: &[u8], place: usize, r: Record, out: &mut [u8], count: usiz
 }
 
 // Writes `r`, which stands at `place`, as it is, with its condition and the entries that it had.
-fn write_plain(table: &[u8], place: usize, r: Record, out: &mut [u8], count: usize) -> usize
-    requires { (place < 1600) × RoomForRecords out.old count (r ∷ condition_at (decode table.now) (place + 1) ++ own_entries (decode table.now) place) }
-    ensures { RecordsAppended out.old count (r ∷ condition_at (decode table.now) (place + 1) ++ own_entries (decode table.now) place) out.new result }
+fn write_plain(table: &[Record], place: usize, r: Record, out: &mut [u8], count: usize) -> usize
+    requires { (place < 1600) × RoomForRecords out.old count (r ∷ condition_at table.now (place + 1) ++ own_entries table.now place) }
+    ensures { RecordsAppended out.old count (r ∷ condition_at table.now (place + 1) ++ own_entries table.now place) out.new result }
 {
     let n = write_head(table, place + 1, r, out, count);
     write_own(table, place + (n - count), out, n)
@@ -103,15 +103,15 @@ fn write_plain(table: &[u8], place: usize, r: Record, out: &mut [u8], count: usi
 
 // Writes `r`, which stands at `place`, as a Flag with its condition and the entries made for it.
 fn write_flag(
-    table: &[u8],
+    table: &[Record],
     place: usize,
     r: Record,
     members: usize,
     out: &mut [u8],
     count: usize,
 ) -> usize
-    requires { (place < 1600) × RoomForRecords out.old count (flag_of r ∷ condition_at (decode table.now) (place + 1) ++ entries_from (decode table.now) r.name members) }
-    ensures { RecordsAppended out.old count (flag_of r ∷ condition_at (decode table.now) (place + 1) ++ entries_from (decode table.now) r.name members) out.new result }
+    requires { (place < 1600) × RoomForRecords out.old count (flag_of r ∷ condition_at table.now (place + 1) ++ entries_from table.now r.name members) }
+    ensures { RecordsAppended out.old count (flag_of r ∷ condition_at table.now (place + 1) ++ entries_from table.now r.name members) out.new result }
 {
     let n = write_head(table, place + 1, flag_of(r), out, count);
     write_entries(table, r.name, members, out, n)
@@ -119,17 +119,17 @@ fn write_flag(
 
 // Writes what the record at `place` becomes.
 fn write_at(
-    table: &[u8],
+    table: &[Record],
     counts: &[u16],
     place: usize,
     members: usize,
     out: &mut [u8],
     count: usize,
 ) -> usize
-    requires { WritingAt (decode table.now) counts.now place members out.old count }
-    ensures { RecordsAppended out.old count (desugared_at (decode table.now) place) out.new result }
+    requires { WritingAt table.now counts.now place members out.old count }
+    ensures { RecordsAppended out.old count (desugared_at table.now place) out.new result }
 {
-    let r = records::at(table, place);
+    let r = table::at(table, place);
     if kinds::is_condition_or_entry(r.kind) {
         return count;
     }
@@ -140,13 +140,13 @@ fn write_at(
 }
 
 // Writes the whole table.
-pub fn write_all(table: &[u8], counts: &[u16], out: &mut [u8])
-    requires { (length (decode table.now) ≤ 1600) × Counted (decode table.now) counts.now (length (decode table.now)) × RoomForRecords out.old 0 (desugared (decode table.now)) }
-    ensures { out.new ≡ written out.old 0 (encode (desugared (decode table.now))) }
+pub fn write_all(table: &[Record], counts: &[u16], out: &mut [u8])
+    requires { (length table.now ≤ 1600) × Counted table.now counts.now (length table.now) × RoomForRecords out.old 0 (desugared table.now) }
+    ensures { out.new ≡ written out.old 0 (encode (desugared table.now)) }
 {
     let mut n = 0;
     let mut a = 0;
-    for p in 0..table::count(table) {
+    for p in 0..table.len() {
         n = write_at(table, counts, p, a, out, n);
         a = flag_sizes::conditions::next_start(table, p, a);
     }

@@ -5,15 +5,15 @@ pub mod stack;
 
 ghost use Rattle.std.specs.Prelude.{◌≡◌, ◌++◌, ◌+◌, ◌≤◌, length, take, reverse, nat_eq, MatchOption};
 ghost use Rattle.std.specs.List.{find};
-ghost use Rattle.rules.specs.Table.{decode, at};
+ghost use Rattle.rules.specs.Table.{at};
 ghost use Rattle.rules.specs.InlineGroups.{kept, lookup, fixed_scalar, fixed_enum, inlined_record};
 ghost use Rattle.group_constraints.specs.Constraints.{constraints_from};
 
 use rules::{Inlined, Record};
 
 // The constraint of `name` that holds: of one name the innermost, then the last.
-fn lookup(table: &[u8], env: &[u16], name: u16) -> Option<u16>
-    ensures { result ≡ find (λ q. nat_eq (at (decode table.now) q).name name) (reverse env.now) }
+fn lookup(table: &[Record], env: &[u16], name: u16) -> Option<u16>
+    ensures { result ≡ find (λ q. nat_eq (at table.now q).name name) (reverse env.now) }
 {
     env.iter()
         .rev()
@@ -58,19 +58,19 @@ fn fixed_enum(typedef: Record, constraint: Record) -> Inlined
 }
 
 // `r` as `fix` makes it from the constraint that holds, or as it is where none does.
-fn under<F: Fn(Record, Record) -> Inlined>(table: &[u8], env: &[u16], r: Record, fix: F) -> Inlined
+fn under<F: Fn(Record, Record) -> Inlined>(table: &[Record], env: &[u16], r: Record, fix: F) -> Inlined
     requires { F.IsAlwaysCallable fix }
-    ensures { MatchOption (lookup (decode table.now) env.now r.name) (result ≡ kept r) (λ q. F.post fix r (at (decode table.now) q) result) }
+    ensures { MatchOption (lookup table.now env.now r.name) (result ≡ kept r) (λ q. F.post fix r (at table.now q) result) }
 {
     match lookup(table, env, r.name) {
-        Some(q) => fix(r, records::at(table, usize::from(q))),
+        Some(q) => fix(r, table::at(table, usize::from(q))),
         None => Inlined { made: r, fit: true },
     }
 }
 
 // `r` under the constraints at the places of `env`.
-pub fn inlined_record(table: &[u8], env: &[u16], r: Record) -> Inlined
-    ensures { result ≡ inlined_record (decode table.now) env.now r }
+pub fn inlined_record(table: &[Record], env: &[u16], r: Record) -> Inlined
+    ensures { result ≡ inlined_record table.now env.now r }
 {
     if r.kind == kinds::SCALAR {
         under(table, env, r, fixed_scalar)
@@ -82,12 +82,12 @@ pub fn inlined_record(table: &[u8], env: &[u16], r: Record) -> Inlined
 }
 
 // Puts the places of the constraints of the field before `place` behind the first `count` of `env`. Returns how many it holds then.
-pub fn push_constraints(table: &[u8], place: usize, env: &mut [u16], count: usize) -> usize
-    requires { (length (decode table.now) ≤ 1600) × (count + length (constraints_from (decode table.now) place) ≤ length env.old) }
-    ensures { (result ≡ count + length (constraints_from (decode table.now) place)) × (take result env.new ≡ take count env.old ++ constraints_from (decode table.now) place) }
+pub fn push_constraints(table: &[Record], place: usize, env: &mut [u16], count: usize) -> usize
+    requires { (length table.now ≤ 1600) × (count + length (constraints_from table.now place) ≤ length env.old) }
+    ensures { (result ≡ count + length (constraints_from table.now place)) × (take result env.new ≡ take count env.old ++ constraints_from table.now place) }
 {
     let mut m = count;
-    for p in place..table::count(table) {
+    for p in place..table.len() {
         let k = table::kind(table, p);
         if k == kinds::CONSTRAINT {
             env[m] = p as u16;

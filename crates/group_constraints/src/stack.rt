@@ -1,9 +1,9 @@
 // The stack of the places of constraints.
 ghost use Rattle.std.specs.Prelude.{◌≡◌, ◌+◌, ◌≤◌, List, ℕ, [], ◌++◌, length, take};
-ghost use Rattle.rules.specs.Table.{decode};
 ghost use Rattle.group_constraints.specs.Constraints.{constraints_from};
 
 use crate::push_constraints;
+use rules::Record;
 use rules::limits::MOST_RECORDS;
 use std::marker::Model;
 
@@ -48,9 +48,9 @@ impl Stack {
     }
 
     // Puts the places of the constraints of the field before `place` on the stack.
-    pub fn push_constraints(&mut self, table: &[u8], place: usize)
-        requires { (length (decode table.now) ≤ 1600) × (length self.old + length (constraints_from (decode table.now) place) ≤ 1600) }
-        ensures { self.new ≡ self.old ++ constraints_from (decode table.now) place }
+    pub fn push_constraints(&mut self, table: &[Record], place: usize)
+        requires { (length table.now ≤ 1600) × (length self.old + length (constraints_from table.now place) ≤ 1600) }
+        ensures { self.new ≡ self.old ++ constraints_from table.now place }
     {
         self.len = push_constraints(table, place, &mut self.places, self.len);
     }

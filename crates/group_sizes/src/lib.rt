@@ -4,13 +4,13 @@
 pub mod targets;
 
 ghost use Rattle.std.specs.Prelude.{◌≡◌, ◌+◌, ◌<◌, ◌≤◌, min, length, get_or};
-ghost use Rattle.rules.specs.Table.{decode};
 ghost use Rattle.rules.specs.Kinds.{group_field};
 ghost use Rattle.group_sizes.specs.GroupsFirst.{GroupsFirst};
 ghost use Rattle.group_sizes.specs.Targets.{TargetsKnown};
 ghost use Rattle.group_sizes.specs.Sizes.{size_here, size_from, SizingAfter, Sized, total_size};
 
 use kinds::{is_constraint_or_condition, is_kept};
+use rules::Record;
 use rules::limits::MOST_RECORDS;
 
 // How many records the record of `kind` at `place` becomes; `bound`: it belongs to a group field.
@@ -26,13 +26,13 @@ fn size_here(targets: &[u16], sizes: &[u16], kind: u8, place: usize, bound: bool
 }
 
 // How many records stand behind the declaration at `decl` once its groups are inlined, by the sizes of those groups.
-fn size_after(table: &[u8], targets: &[u16], sizes: &[u16], decl: usize) -> usize
-    requires { SizingAfter (decode table.now) targets.now sizes.now decl }
-    ensures { result ≡ size_from targets.now sizes.now (decode table.now) (decl + 1) }
+fn size_after(table: &[Record], targets: &[u16], sizes: &[u16], decl: usize) -> usize
+    requires { SizingAfter table.now targets.now sizes.now decl }
+    ensures { result ≡ size_from targets.now sizes.now table.now (decl + 1) }
 {
     let mut s: usize = 0;
     let mut after = false;
-    for p in decl + 1..table::count(table) {
+    for p in decl + 1..table.len() {
         let k = table::kind(table, p);
         if kinds::is_decl(k) {
             return s;
@@ -50,12 +50,12 @@ fn size_after(table: &[u8], targets: &[u16], sizes: &[u16], decl: usize) -> usiz
 const TOO_MANY: usize = MOST_RECORDS + 1;
 
 // Writes the sizes of the declarations, in the order of the table: each group stands before what holds a field of it.
-pub fn measure(table: &[u8], targets: &[u16], sizes: &mut [u16])
-    requires table_len_bound { (length (decode table.now) ≤ 1600) × TargetsKnown (decode table.now) targets.now (length (decode table.now)) × (length (decode table.now) ≤ length sizes.old) }
-    requires groups_first { GroupsFirst (decode table.now) }
-    ensures { Sized (decode table.now) targets.now sizes.new (length (decode table.now)) }
+pub fn measure(table: &[Record], targets: &[u16], sizes: &mut [u16])
+    requires table_len_bound { (length table.now ≤ 1600) × TargetsKnown table.now targets.now (length table.now) × (length table.now ≤ length sizes.old) }
+    requires groups_first { GroupsFirst table.now }
+    ensures { Sized table.now targets.now sizes.new (length table.now) }
 {
-    for d in 0..table::count(table) {
+    for d in 0..table.len() {
         if kinds::is_decl(table::kind(table, d)) {
             let s = size_after(table, targets, sizes, d);
             sizes[d] = s.min(TOO_MANY) as u16;
@@ -64,12 +64,12 @@ pub fn measure(table: &[u8], targets: &[u16], sizes: &mut [u16])
 }
 
 // How many records the inlined table has, if that is at most 1,600.
-pub fn total(table: &[u8], sizes: &[u16]) -> usize
-    requires { (length (decode table.now) ≤ 1600) × (length (decode table.now) ≤ length sizes.now) }
-    ensures { result ≡ total_size sizes.now (decode table.now) (length (decode table.now)) }
+pub fn total(table: &[Record], sizes: &[u16]) -> usize
+    requires { (length table.now ≤ 1600) × (length table.now ≤ length sizes.now) }
+    ensures { result ≡ total_size sizes.now table.now (length table.now) }
 {
     let mut s: usize = 0;
-    for (d, x) in sizes[..table::count(table)].iter().enumerate() {
+    for (d, x) in sizes[..table.len()].iter().enumerate() {
         if is_kept(table::kind(table, d)) {
             s += 1 + *x as usize;
         }

@@ -2,7 +2,6 @@
 #![tactic(auto)]
 
 ghost use Rattle.std.specs.Prelude.{◌≡◌, ◌+◌, ◌*◌, ◌≤◌, length};
-ghost use Rattle.rules.specs.Table.{decode};
 ghost use Rattle.rules.specs.InlineGroups.{inlined};
 ghost use Rattle.group_sizes.specs.Sizes.{total_size};
 ghost use Rattle.group_table.specs.Outputs.{unfit_after, output, added, added_all, empty, RoomForInlined, ExpandReady, Expanded};
@@ -11,7 +10,7 @@ use group_constraints::inlined_record;
 use group_constraints::stack::Stack;
 use kinds::{is_constraint_or_condition, is_kept};
 use records::record;
-use rules::{FieldKey, Inlined};
+use rules::{FieldKey, Inlined, Record};
 
 // How many records are written, and the key of the first that is not fit.
 #[derive(Clone, Copy)]
@@ -42,7 +41,7 @@ fn add(out: &mut [u8], progress: ExpandProgress, next: Inlined) -> ExpandProgres
 // Writes what stands behind the declaration at `decl`, under the constraints on the stack. The group of a field is the
 // declaration at its place of targets; one of size 0 is passed over.
 fn expand(
-    table: &[u8],
+    table: &[Record],
     targets: &[u16],
     sizes: &[u16],
     decl: usize,
@@ -50,12 +49,12 @@ fn expand(
     out: &mut [u8],
     progress: ExpandProgress,
 ) -> ExpandProgress
-    requires { ExpandReady (decode table.now) targets.now sizes.now decl env.old out.old progress }
-    ensures { Expanded (decode table.now) sizes.now decl env.old out.old progress env.new out.new result }
+    requires { ExpandReady table.now targets.now sizes.now decl env.old out.old progress }
+    ensures { Expanded table.now sizes.now decl env.old out.old progress env.new out.new result }
 {
     let mut s = progress;
     let mut after = false;
-    for p in decl + 1..table::count(table) {
+    for p in decl + 1..table.len() {
         let k = table::kind(table, p);
         if kinds::is_decl(k) {
             return s;
@@ -83,17 +82,17 @@ fn expand(
 }
 
 // Writes the inlined table.
-pub fn write_all(table: &[u8], targets: &[u16], sizes: &[u16], out: &mut [u8]) -> ExpandProgress
-    requires room_for_inlined { RoomForInlined (decode table.now) targets.now sizes.now out.old }
-    requires table_bound { total_size sizes.now (decode table.now) (length (decode table.now)) ≤ 1600 }
-    ensures { output result out.new ≡ added_all (output empty out.old) (inlined (decode table.now)) }
+pub fn write_all(table: &[Record], targets: &[u16], sizes: &[u16], out: &mut [u8]) -> ExpandProgress
+    requires room_for_inlined { RoomForInlined table.now targets.now sizes.now out.old }
+    requires table_bound { total_size sizes.now table.now (length table.now) ≤ 1600 }
+    ensures { output result out.new ≡ added_all (output empty out.old) (inlined table.now) }
 {
     let mut env = Stack::new();
     let mut s = ExpandProgress {
         count: 0,
         unfit: None,
     };
-    for d in 0..table::count(table) {
+    for d in 0..table.len() {
         let r = record(table, d);
         if is_kept(r.kind) {
             let first = add(out, s, Inlined { made: r, fit: true });

@@ -5,7 +5,7 @@ use mathlib.Core.List.{List, [], ◌∷◌, ◌++◌}
 use native.Mathlib.Omega.{arith}
 use lib.ListN.{length}
 use Rattle.rules.specs.Bytes.{number_at, bytes}
-use Rattle.rules.specs.Table.{record_at, records, decode, record_bytes, encode}
+use Rattle.rules.specs.Table.{record_at, records, record_bytes, encode}
 use Rattle.rules.specs.declared.Record.{Record}
 use Rattle.store.proofs.Laws.{length-encode}
 

@@ -12,7 +12,7 @@ use borrow.Author.Tests.{ltb-true, ltb-false, le-ltb}
 use lib.ListN.{length, get_or, take, drop, get_or-eq_default}
 use lib.Seq.{take_at}
 use Rattle.rules.specs.Bytes.{number_at}
-use Rattle.rules.specs.Table.{at, blank, record_at, decode, encode, field_key}
+use Rattle.rules.specs.Table.{at, blank, record_at, encode, field_key}
 use Rattle.rules.specs.Places.{each, decl_named}
 use Rattle.rules.specs.Kinds.{is_decl}
 use Rattle.rules.specs.InlineGroups.{kept, fixed_scalar, fixed_enum, lookup, under, inlined_record, is_constraint_or_condition, is_kept, after_group, own_constraints, group_fields, inlined_field, inlined_fields, expand, inlined_at, inlined, record_of, first_unfit}
@@ -65,13 +65,13 @@ module _ (t : List ℕ) (small : (i : ℕ) → get_or t i 0 < 256) where
   blank-fits =
       record { kind = omega arith; marks = omega arith; name = omega arith; second = omega arith; third = omega arith; one = omega arith; two = omega arith; key = omega arith; start = omega arith; end = omega arith }
 
-  pub at-fits : (p : ℕ) → Fits (at (decode t) p)
+  pub at-fits : (p : ℕ) → Fits (at t p)
   unfolding at
-  at-fits p = go (dec_lt p (length (decode t)))
+  at-fits p = go (dec_lt p (length t))
     where
-      go : Dec (p < length (decode t)) → Fits (at (decode t) p)
+      go : Dec (p < length t) → Fits (at t p)
       go (yes h) = rw (at-decode t p h) (record-fits (40 * p))
-      go (no h) = let l : length (decode t) ≤ p = omega arith in rw (get_or-eq_default (decode t) blank l) blank-fits
+      go (no h) = let l : length t ≤ p = omega arith in rw (get_or-eq_default t blank l) blank-fits
 
 -- ---- and so are those of the inlined table
 
@@ -213,7 +213,7 @@ front b xs n e =
     rw (inlining_bytes, le-ltb _ _ few, le-ltb _ _ fits)
     (take_at (encode (map record_of xs)) (drop (0 + length (encode (map record_of xs))) b) (40 * n) l)
 
-pub read-records : (t : List ℕ) (small : (i : ℕ) → get_or t i 0 < 256) (b : List ℕ) (n : ℕ) → inlining (length b) (inlined (decode t)) ≡ Ok n
-    → decode (take (40 * n) (inlining_bytes b (inlined (decode t)))) ≡ map record_of (inlined (decode t))
+pub read-records : (t : List ℕ) (small : (i : ℕ) → get_or t i 0 < 256) (b : List ℕ) (n : ℕ) → inlining (length b) (inlined t) ≡ Ok n
+    → decode (take (40 * n) (inlining_bytes b (inlined t))) ≡ map record_of (inlined t)
 read-records t small b n e =
-    rw (front b (inlined (decode t)) n e) (decode-encode (map record_of (inlined (decode t))) (inlined-fits (decode t) (at-fits t small)))
+    rw (front b (inlined t) n e) (decode-encode (map record_of (inlined t)) (inlined-fits t (at-fits t small)))

@@ -2,13 +2,12 @@
 #![tactic(auto)]
 
 ghost use Rattle.std.specs.Prelude.{◌≡◌, ◌≤◌, length};
-ghost use Rattle.rules.specs.Table.{decode};
 ghost use Rattle.rules.specs.InlineGroups.{inlined};
 ghost use Rattle.group_sizes.specs.GroupsFirst.{GroupsFirst};
 ghost use Rattle.inline_groups.specs.Inlinings.{inlining, inlining_numbered, by_fit, inlining_bytes};
 
 use group_table::ExpandProgress;
-use rules::FieldKey;
+use rules::{FieldKey, Record};
 use rules::limits::{MOST_RECORDS, RECORD_LENGTH};
 
 // Why there is no inlined table: a row of the table of replies, or a buffer that is too short for it.
@@ -31,14 +30,14 @@ fn by_fit(progress: ExpandProgress) -> Result<usize, InlineError>
 
 // Inlines the groups with arrays of the caller's: targets and sizes by place.
 fn inline_with(
-    table: &[u8],
+    table: &[Record],
     targets: &mut [u16],
     sizes: &mut [u16],
     out: &mut [u8],
 ) -> Result<usize, InlineError>
-    requires table_len_bound { (length (decode table.now) ≤ 1600) × (length (decode table.now) ≤ length targets.old) × (length (decode table.now) ≤ length sizes.old) }
-    requires groups_first { GroupsFirst (decode table.now) }
-    ensures { (result ≡ inlining (length out.old) (inlined (decode table.now))) × (out.new ≡ inlining_bytes out.old (inlined (decode table.now))) }
+    requires table_len_bound { (length table.now ≤ 1600) × (length table.now ≤ length targets.old) × (length table.now ≤ length sizes.old) }
+    requires groups_first { GroupsFirst table.now }
+    ensures { (result ≡ inlining (length out.old) (inlined table.now)) × (out.new ≡ inlining_bytes out.old (inlined table.now)) }
 {
     group_sizes::targets::fill(table, targets);
     group_sizes::measure(table, targets, sizes);
@@ -53,11 +52,11 @@ fn inline_with(
 }
 
 // Inlines the groups of a table in listed order into a buffer, if the inlined table fits it. Returns how many records it has.
-pub fn inline_groups(table: &[u8], out: &mut [u8]) -> Result<usize, InlineError>
-    requires table_len_bound { length (decode table.now) ≤ 1600 }
-    requires groups_first { GroupsFirst (decode table.now) }
-    ensures value { (result ≡ inlining (length out.old) (inlined (decode table.now))) × (out.new ≡ inlining_bytes out.old (inlined (decode table.now))) }
-    ensures numbered { inlining_numbered result ≡ inlining_numbered (inlining (length out.old) (inlined (decode table.now))) }
+pub fn inline_groups(table: &[Record], out: &mut [u8]) -> Result<usize, InlineError>
+    requires table_len_bound { length table.now ≤ 1600 }
+    requires groups_first { GroupsFirst table.now }
+    ensures value { (result ≡ inlining (length out.old) (inlined table.now)) × (out.new ≡ inlining_bytes out.old (inlined table.now)) }
+    ensures numbered { inlining_numbered result ≡ inlining_numbered (inlining (length out.old) (inlined table.now)) }
 {
     let mut targets = [0u16; MOST_RECORDS];
     let mut sizes = [0u16; MOST_RECORDS];

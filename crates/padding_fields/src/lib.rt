@@ -3,24 +3,23 @@
 
 ghost use Rattle.std.specs.Prelude.{◌≡◌};
 ghost use Rattle.std.specs.Option.{option_to_list};
-ghost use Rattle.rules.specs.Table.{decode};
 ghost use Rattle.rules.specs.PaddingFields.{not_after_array, pass9_at};
 
 use faults::when;
-use rules::{Fault, Target, codes};
+use rules::{Fault, Record, Target, codes};
 
-fn not_after_array(table: &[u8], place: usize, found: Option<usize>) -> Option<Fault>
-    ensures { option_to_list result ≡ not_after_array (decode table.now) place found }
+fn not_after_array(table: &[Record], place: usize, found: Option<usize>) -> Option<Fault>
+    ensures { option_to_list result ≡ not_after_array table.now place found }
 {
     let follows_array = found.is_some_and(|q| table::kind(table, q) == kinds::ARRAY);
     when(
         !follows_array,
-        faults::fault::single(codes::INVALID_PADDING_FIELD, records::at(table, place)),
+        faults::fault::single(codes::INVALID_PADDING_FIELD, table::at(table, place)),
     )
 }
 
-pub fn at_place(table: &[u8], place: usize) -> Option<Fault>
-    ensures { option_to_list result ≡ pass9_at (decode table.now) place }
+pub fn at_place(table: &[Record], place: usize) -> Option<Fault>
+    ensures { option_to_list result ≡ pass9_at table.now place }
 {
     if table::kind(table, place) != kinds::PADDING {
         return None;

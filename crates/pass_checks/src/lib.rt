@@ -2,17 +2,16 @@
 #![tactic(auto)]
 
 ghost use Rattle.std.specs.Prelude.{◌≡◌, ◌≤◌, length};
-ghost use Rattle.rules.specs.Table.{decode};
 ghost use Rattle.rules.specs.Faults.{log, logged};
 ghost use Rattle.rules.specs.Scopes.{pass1};
 ghost use Rattle.pass_checks.specs.Later.{outcome, later};
 
 use pass_faults::run;
-use rules::Tally;
+use rules::{Record, Tally};
 
 // All faults of pass 1.
-pub fn scope_new(table: &[u8], buffer: &mut [u8]) -> Tally
-    ensures { log result buffer.new ≡ logged buffer.old (pass1 (decode table.now)) }
+pub fn scope_new(table: &[Record], buffer: &mut [u8]) -> Tally
+    ensures { log result buffer.new ≡ logged buffer.old (pass1 table.now) }
 {
     run(1, table, buffer)
 }
@@ -25,9 +24,9 @@ pub struct Faulty {
 }
 
 // Passes 3 to 9 in order, up to the first that finds faults. Only that one writes.
-pub fn run_later(table: &[u8], buffer: &mut [u8]) -> Result<(), Faulty>
-    requires { length (decode table.now) ≤ 1600 }
-    ensures { outcome result buffer.new ≡ later (decode table.now) buffer.old }
+pub fn run_later(table: &[Record], buffer: &mut [u8]) -> Result<(), Faulty>
+    requires { length table.now ≤ 1600 }
+    ensures { outcome result buffer.new ≡ later table.now buffer.old }
 {
     for pass in 3..10 {
         let total = run(pass, table, buffer).total;

@@ -3,7 +3,7 @@
 
 ghost use Rattle.std.specs.Prelude.{◌≡◌, List, [], ◌++◌, false, ℕ, ◌≤◌, length};
 ghost use Rattle.std.specs.Option.{option_to_list};
-ghost use Rattle.rules.specs.Table.{decode, at};
+ghost use Rattle.rules.specs.Table.{at};
 ghost use Rattle.rules.specs.Places.{each};
 ghost use Rattle.rules.specs.declared.Fault.{Fault};
 ghost use Rattle.rules.specs.Faults.{log, logged};
@@ -26,7 +26,7 @@ use declarations::starts::is_large;
 use field_identifiers::check_field_identifiers;
 use repeats::marks::Compared;
 use rules::limits::MOST_RECORDS;
-use rules::{Fault, Tally};
+use rules::{Fault, Record, Tally};
 use table::{NO_PLACE, REMAINDERS};
 
 // Whether the bit of this kind is set.
@@ -38,16 +38,16 @@ fn is_among(kinds: u64, kind: u8) -> bool
 
 // All faults that `found_at` finds, at most two a place. It finds none where the kind of the record is not among `kinds`.
 fn run_places<F: Fn(usize) -> (Option<Fault>, Option<Fault>)>(
-    table: &[u8],
+    table: &[Record],
     kinds: u64,
     found_at: F,
     buffer: &mut [u8],
 ) -> Tally
     requires { F.IsAlwaysCallable found_at }
-    ensures { (listed : ℕ → List Fault) → Lists (F.post found_at) (decode table.now) kinds listed → log result buffer.new ≡ logged buffer.old (each listed (length (decode table.now))) }
+    ensures { (listed : ℕ → List Fault) → Lists (F.post found_at) table.now kinds listed → log result buffer.new ≡ logged buffer.old (each listed (length table.now)) }
 {
     let mut tally = faults::no_faults();
-    for place in 0..table::count(table) {
+    for place in 0..table.len() {
         if is_among(kinds, table::kind(table, place)) {
             let (first, second) = found_at(place);
             tally = faults::notes::note_found(tally, buffer, first);
@@ -58,9 +58,9 @@ fn run_places<F: Fn(usize) -> (Option<Fault>, Option<Fault>)>(
 }
 
 // Pass 1, where `starts` says of some names where their declarations start.
-fn scopes(table: &[u8], starts: &[u16], buffer: &mut [u8]) -> Tally
-    requires { Starts (decode table.now) starts.now }
-    ensures { log result buffer.new ≡ logged buffer.old (pass1 (decode table.now)) }
+fn scopes(table: &[Record], starts: &[u16], buffer: &mut [u8]) -> Tally
+    requires { Starts table.now starts.now }
+    ensures { log result buffer.new ≡ logged buffer.old (pass1 table.now) }
 {
     run_places(
         table,
@@ -70,8 +70,8 @@ fn scopes(table: &[u8], starts: &[u16], buffer: &mut [u8]) -> Tally
     )
 }
 
-fn run_scopes(table: &[u8], buffer: &mut [u8]) -> Tally
-    ensures { log result buffer.new ≡ logged buffer.old (pass1 (decode table.now)) }
+fn run_scopes(table: &[Record], buffer: &mut [u8]) -> Tally
+    ensures { log result buffer.new ≡ logged buffer.old (pass1 table.now) }
 {
     if !is_large(table) {
         return scopes(table, &[], buffer);
@@ -82,9 +82,9 @@ fn run_scopes(table: &[u8], buffer: &mut [u8]) -> Tally
 }
 
 // Pass 3, where `marks` says which fields may repeat a name.
-fn field_names(table: &[u8], marks: &[u8], buffer: &mut [u8]) -> Tally
-    requires { Marked (decode table.now) FieldNames marks.now }
-    ensures { log result buffer.new ≡ logged buffer.old (pass3 (decode table.now)) }
+fn field_names(table: &[Record], marks: &[u8], buffer: &mut [u8]) -> Tally
+    requires { Marked table.now FieldNames marks.now }
+    ensures { log result buffer.new ≡ logged buffer.old (pass3 table.now) }
 {
     run_places(
         table,
@@ -95,8 +95,8 @@ fn field_names(table: &[u8], marks: &[u8], buffer: &mut [u8]) -> Tally
 }
 
 // In a small table, where `field_names` searches for each, it would take longer to ask which fields may repeat a name.
-fn run_field_names(table: &[u8], buffer: &mut [u8]) -> Tally
-    ensures { log result buffer.new ≡ logged buffer.old (pass3 (decode table.now)) }
+fn run_field_names(table: &[Record], buffer: &mut [u8]) -> Tally
+    ensures { log result buffer.new ≡ logged buffer.old (pass3 table.now) }
 {
     if !is_large(table) {
         return field_names(table, &[], buffer);
@@ -107,9 +107,9 @@ fn run_field_names(table: &[u8], buffer: &mut [u8]) -> Tally
 }
 
 // Pass 5, where `sizes` and `elements` say which sizes may repeat a name, and `starts` where to search for what they name.
-fn sizes(table: &[u8], sizes: &[u8], elements: &[u8], starts: &[u16], buffer: &mut [u8]) -> Tally
-    requires { Marked (decode table.now) Sizes sizes.now × Marked (decode table.now) ElementSizes elements.now × SizeStarts (decode table.now) starts.now }
-    ensures { log result buffer.new ≡ logged buffer.old (pass5 (decode table.now)) }
+fn sizes(table: &[Record], sizes: &[u8], elements: &[u8], starts: &[u16], buffer: &mut [u8]) -> Tally
+    requires { Marked table.now Sizes sizes.now × Marked table.now ElementSizes elements.now × SizeStarts table.now starts.now }
+    ensures { log result buffer.new ≡ logged buffer.old (pass5 table.now) }
 {
     run_places(
         table,
@@ -124,8 +124,8 @@ fn sizes(table: &[u8], sizes: &[u8], elements: &[u8], starts: &[u16], buffer: &m
     )
 }
 
-fn run_sizes(table: &[u8], buffer: &mut [u8]) -> Tally
-    ensures { log result buffer.new ≡ logged buffer.old (pass5 (decode table.now)) }
+fn run_sizes(table: &[Record], buffer: &mut [u8]) -> Tally
+    ensures { log result buffer.new ≡ logged buffer.old (pass5 table.now) }
 {
     if !is_large(table) {
         return sizes(table, &[], &[], &[], buffer);
@@ -140,9 +140,9 @@ fn run_sizes(table: &[u8], buffer: &mut [u8]) -> Tally
 }
 
 // Pass 6, where `starts` says of some names where their declarations start.
-fn fixed_values(table: &[u8], starts: &[u16], buffer: &mut [u8]) -> Tally
-    requires { Starts (decode table.now) starts.now }
-    ensures { log result buffer.new ≡ logged buffer.old (pass6 (decode table.now)) }
+fn fixed_values(table: &[Record], starts: &[u16], buffer: &mut [u8]) -> Tally
+    requires { Starts table.now starts.now }
+    ensures { log result buffer.new ≡ logged buffer.old (pass6 table.now) }
 {
     run_places(
         table,
@@ -152,8 +152,8 @@ fn fixed_values(table: &[u8], starts: &[u16], buffer: &mut [u8]) -> Tally
     )
 }
 
-fn run_fixed_values(table: &[u8], buffer: &mut [u8]) -> Tally
-    ensures { log result buffer.new ≡ logged buffer.old (pass6 (decode table.now)) }
+fn run_fixed_values(table: &[Record], buffer: &mut [u8]) -> Tally
+    ensures { log result buffer.new ≡ logged buffer.old (pass6 table.now) }
 {
     if !is_large(table) {
         return fixed_values(table, &[], buffer);
@@ -164,9 +164,9 @@ fn run_fixed_values(table: &[u8], buffer: &mut [u8]) -> Tally
 }
 
 // Pass 7, where `parents` says which names a child with a field may have for its parent.
-fn payloads(table: &[u8], parents: &[u8], buffer: &mut [u8]) -> Tally
-    requires { Parents (decode table.now) parents.now }
-    ensures { log result buffer.new ≡ logged buffer.old (pass7 (decode table.now)) }
+fn payloads(table: &[Record], parents: &[u8], buffer: &mut [u8]) -> Tally
+    requires { Parents table.now parents.now }
+    ensures { log result buffer.new ≡ logged buffer.old (pass7 table.now) }
 {
     run_places(
         table,
@@ -176,8 +176,8 @@ fn payloads(table: &[u8], parents: &[u8], buffer: &mut [u8]) -> Tally
     )
 }
 
-fn run_payloads(table: &[u8], buffer: &mut [u8]) -> Tally
-    ensures { log result buffer.new ≡ logged buffer.old (pass7 (decode table.now)) }
+fn run_payloads(table: &[Record], buffer: &mut [u8]) -> Tally
+    ensures { log result buffer.new ≡ logged buffer.old (pass7 table.now) }
 {
     if !is_large(table) {
         return payloads(table, &[], buffer);
@@ -188,8 +188,8 @@ fn run_payloads(table: &[u8], buffer: &mut [u8]) -> Tally
 }
 
 // Pass 8.
-fn run_arrays(table: &[u8], buffer: &mut [u8]) -> Tally
-    ensures { log result buffer.new ≡ logged buffer.old (pass8 (decode table.now)) }
+fn run_arrays(table: &[Record], buffer: &mut [u8]) -> Tally
+    ensures { log result buffer.new ≡ logged buffer.old (pass8 table.now) }
 {
     run_places(
         table,
@@ -200,8 +200,8 @@ fn run_arrays(table: &[u8], buffer: &mut [u8]) -> Tally
 }
 
 // Pass 9.
-fn run_paddings(table: &[u8], buffer: &mut [u8]) -> Tally
-    ensures { log result buffer.new ≡ logged buffer.old (pass9 (decode table.now)) }
+fn run_paddings(table: &[Record], buffer: &mut [u8]) -> Tally
+    ensures { log result buffer.new ≡ logged buffer.old (pass9 table.now) }
 {
     run_places(
         table,
@@ -212,9 +212,9 @@ fn run_paddings(table: &[u8], buffer: &mut [u8]) -> Tally
 }
 
 // All faults of a pass. Only pass 4 needs a bound on the table.
-pub fn run(pass: u8, table: &[u8], buffer: &mut [u8]) -> Tally
-    requires { pass ≡ 4 → length (decode table.now) ≤ 1600 }
-    ensures { log result buffer.new ≡ logged buffer.old (pass_faults pass (decode table.now)) }
+pub fn run(pass: u8, table: &[Record], buffer: &mut [u8]) -> Tally
+    requires { pass ≡ 4 → length table.now ≤ 1600 }
+    ensures { log result buffer.new ≡ logged buffer.old (pass_faults pass table.now) }
 {
     match pass {
         1 => run_scopes(table, buffer),

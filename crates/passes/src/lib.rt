@@ -2,19 +2,18 @@
 #![tactic(auto)]
 
 ghost use Rattle.std.specs.Prelude.{◌≡◌, [], ◌*◌, ◌≤◌, length};
-ghost use Rattle.rules.specs.Table.{decode};
 ghost use Rattle.rules.specs.Scopes.{pass1};
 ghost use Rattle.rules.specs.Replies.{answered, by_passes};
 ghost use Rattle.group_sizes.specs.GroupsFirst.{GroupsFirst};
 ghost use Rattle.passes.specs.Listed.{by_listed};
 
-use rules::Reply;
+use rules::{Record, Reply};
 use rules::limits::RECORD_LENGTH;
 
 // Passes 3 to 9, then the table.
-fn check_listed(listed: &[u8], table: &mut [u8], faults: &mut [u8]) -> Reply
-    requires { (length (decode listed.now) ≤ 1600) × GroupsFirst (decode listed.now) }
-    ensures { answered result table.new faults.new ≡ by_listed (decode listed.now) table.old faults.old }
+fn check_listed(listed: &[Record], table: &mut [u8], faults: &mut [u8]) -> Reply
+    requires { (length listed.now ≤ 1600) × GroupsFirst listed.now }
+    ensures { answered result table.new faults.new ≡ by_listed listed.now table.old faults.old }
 {
     match pass_checks::run_later(listed, faults) {
         Err(faulty) => Reply::Faulty(faulty.pass, faulty.total),
@@ -23,9 +22,9 @@ fn check_listed(listed: &[u8], table: &mut [u8], faults: &mut [u8]) -> Reply
 }
 
 // Pass 2, on a table without faults in pass 1, then what follows on the table that it lists.
-fn check_order(input: &[u8], listed: &mut [u8], table: &mut [u8], faults: &mut [u8]) -> Reply
-    requires { (length (decode input.now) ≤ 1600) × (40 * length (decode input.now) ≤ length listed.old) × (pass1 (decode input.now) ≡ []) }
-    ensures { answered result table.new faults.new ≡ by_passes (decode input.now) table.old faults.old }
+fn check_order(input: &[Record], listed: &mut [u8], table: &mut [u8], faults: &mut [u8]) -> Reply
+    requires { (length input.now ≤ 1600) × (40 * length input.now ≤ length listed.old) × (pass1 input.now ≡ []) }
+    ensures { answered result table.new faults.new ≡ by_passes input.now table.old faults.old }
 {
     match decl_order::check_decl_identifiers(input, faults, listed) {
         Err(tally) => Reply::Faulty(2, tally.total),
@@ -37,9 +36,9 @@ fn check_order(input: &[u8], listed: &mut [u8], table: &mut [u8], faults: &mut [
 }
 
 // Passes 1 and 2, then what follows.
-pub fn check_passes(input: &[u8], listed: &mut [u8], table: &mut [u8], faults: &mut [u8]) -> Reply
-    requires { (length (decode input.now) ≤ 1600) × (40 * length (decode input.now) ≤ length listed.old) }
-    ensures { answered result table.new faults.new ≡ by_passes (decode input.now) table.old faults.old }
+pub fn check_passes(input: &[Record], listed: &mut [u8], table: &mut [u8], faults: &mut [u8]) -> Reply
+    requires { (length input.now ≤ 1600) × (40 * length input.now ≤ length listed.old) }
+    ensures { answered result table.new faults.new ≡ by_passes input.now table.old faults.old }
 {
     let tally = pass_checks::scope_new(input, faults);
     if 0 < tally.total {

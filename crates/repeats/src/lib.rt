@@ -5,25 +5,25 @@ pub mod marks;
 
 ghost use Rattle.std.specs.Prelude.{◌≡◌};
 ghost use Rattle.std.specs.Option.{option_to_list};
-ghost use Rattle.rules.specs.Table.{decode, at};
+ghost use Rattle.rules.specs.Table.{at};
 ghost use Rattle.rules.specs.Faults.{repeated};
 ghost use Rattle.rules.specs.EnumDeclarations.{again};
 ghost use Rattle.repeats.specs.Marks.{compared_of, target_of, Marked};
 
 use marks::Compared;
-use rules::{Fault, Target};
+use rules::{Fault, Record, Target};
 
 // A fault at `place` that points at the earlier record that a search found, if it is no declaration.
-fn repeated(code: u16, table: &[u8], place: usize, found: Option<usize>) -> Option<Fault>
-    ensures { option_to_list result ≡ repeated code (decode table.now) place found }
+fn repeated(code: u16, table: &[Record], place: usize, found: Option<usize>) -> Option<Fault>
+    ensures { option_to_list result ≡ repeated code table.now place found }
 {
     let q = search::members::inside(table, found)?;
-    Some(faults::fault::double(code, records::at(table, place), records::at(table, q)))
+    Some(faults::fault::double(code, table::at(table, place), table::at(table, q)))
 }
 
 // A fault at `place` that points at the nearest earlier record of its declaration that is what `target` looks for.
-pub fn again(code: u16, table: &[u8], target: Target, place: usize) -> Option<Fault>
-    ensures { option_to_list result ≡ again code (decode table.now) target place }
+pub fn again(code: u16, table: &[Record], target: Target, place: usize) -> Option<Fault>
+    ensures { option_to_list result ≡ again code table.now target place }
 {
     repeated(code, table, place, search::nearest(table, target, place))
 }
@@ -31,13 +31,13 @@ pub fn again(code: u16, table: &[u8], target: Target, place: usize) -> Option<Fa
 // As `again`, for what is compared of the record at `place`, without a search where the mark is 0.
 pub fn again_marked(
     code: u16,
-    table: &[u8],
+    table: &[Record],
     what: Compared,
     place: usize,
     marks: &[u8],
 ) -> Option<Fault>
-    requires { Marked (decode table.now) what marks.now }
-    ensures { option_to_list result ≡ again code (decode table.now) (target_of what (compared_of what (at (decode table.now) place))) place }
+    requires { Marked table.now what marks.now }
+    ensures { option_to_list result ≡ again code table.now (target_of what (compared_of what (at table.now place))) place }
 {
     if marks::mark_at(marks, place) == 0 {
         return None;

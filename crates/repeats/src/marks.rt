@@ -1,9 +1,9 @@
 // Marks of the records that might repeat an earlier one of their declaration, so that the others need no search.
 ghost use Rattle.std.specs.Prelude.{◌≡◌, ◌+◌, ◌<◌, ◌≤◌, length, get_or};
-ghost use Rattle.rules.specs.Table.{decode, at};
+ghost use Rattle.rules.specs.Table.{at};
 ghost use Rattle.repeats.specs.Marks.{selects, compared_of, target_of, Marked, Stamped};
 
-use rules::Target;
+use rules::{Record, Target};
 use rules::limits::MOST_RECORDS;
 use table::{DIVISOR, REMAINDERS};
 
@@ -40,26 +40,26 @@ impl Compared {
     }
 
     // What is compared of the record at `place`.
-    fn value_at(self, table: &[u8], place: usize) -> u64
-        ensures { result ≡ compared_of self (at (decode table.now) place) }
+    fn value_at(self, table: &[Record], place: usize) -> u64
+        ensures { result ≡ compared_of self (at table.now place) }
     {
         match self {
-            Compared::FieldNames | Compared::TagNames => u64::from(table::name(table, place)),
-            Compared::TagValues => table::one(table, place),
-            Compared::Sizes | Compared::ElementSizes => u64::from(table::second(table, place)),
+            Compared::FieldNames | Compared::TagNames => u64::from(table::at(table, place).name),
+            Compared::TagValues => table::at(table, place).one,
+            Compared::Sizes | Compared::ElementSizes => u64::from(table::at(table, place).second),
         }
     }
 
     // What a search for an earlier record with the name or value of the one at `place` looks for.
-    pub(crate) fn target(self, table: &[u8], place: usize) -> Target
-        ensures { result ≡ target_of self (compared_of self (at (decode table.now) place)) }
+    pub(crate) fn target(self, table: &[Record], place: usize) -> Target
+        ensures { result ≡ target_of self (compared_of self (at table.now place)) }
     {
         match self {
-            Compared::FieldNames => Target::NameOrDecl(table::name(table, place)),
-            Compared::TagNames => Target::TagOrDecl(table::name(table, place)),
-            Compared::TagValues => Target::ValueOrDecl(table::one(table, place)),
-            Compared::Sizes => Target::SizeOrDecl(table::second(table, place)),
-            Compared::ElementSizes => Target::ElementSizeOrDecl(table::second(table, place)),
+            Compared::FieldNames => Target::NameOrDecl(table::at(table, place).name),
+            Compared::TagNames => Target::TagOrDecl(table::at(table, place).name),
+            Compared::TagValues => Target::ValueOrDecl(table::at(table, place).one),
+            Compared::Sizes => Target::SizeOrDecl(table::at(table, place).second),
+            Compared::ElementSizes => Target::ElementSizeOrDecl(table::at(table, place).second),
         }
     }
 }
@@ -73,15 +73,15 @@ pub fn mark_at(marks: &[u8], place: usize) -> u8
 
 // One place: a zero where no earlier record of the declaration left its stamp for the same remainder.
 fn mark_place(
-    table: &[u8],
+    table: &[Record],
     what: Compared,
     stamp: u16,
     place: usize,
     seen: &mut [u16],
     marks: &mut [u8],
 ) -> u16
-    requires { (place < 1600) × (1600 ≤ length marks.old) × (4093 ≤ length seen.old) × Marked (decode table.now) what marks.old × Stamped (decode table.now) what seen.old stamp place }
-    ensures { Marked (decode table.now) what marks.new × Stamped (decode table.now) what seen.new result (place + 1) }
+    requires { (place < 1600) × (1600 ≤ length marks.old) × (4093 ≤ length seen.old) × Marked table.now what marks.old × Stamped table.now what seen.old stamp place }
+    ensures { Marked table.now what marks.new × Stamped table.now what seen.new result (place + 1) }
 {
     let k = table::kind(table, place);
     if !what.selects(k) {
@@ -102,9 +102,9 @@ fn mark_place(
 }
 
 // The first `count` places. Each declaration has its own stamp, so that `seen` is not cleared between them.
-fn mark_places(table: &[u8], what: Compared, count: usize, seen: &mut [u16], marks: &mut [u8])
-    requires { (count ≤ 1600) × (1600 ≤ length marks.old) × (4093 ≤ length seen.old) × Marked (decode table.now) what marks.old }
-    ensures { Marked (decode table.now) what marks.new }
+fn mark_places(table: &[Record], what: Compared, count: usize, seen: &mut [u16], marks: &mut [u8])
+    requires { (count ≤ 1600) × (1600 ≤ length marks.old) × (4093 ≤ length seen.old) × Marked table.now what marks.old }
+    ensures { Marked table.now what marks.new }
 {
     let mut stamp = 0;
     for p in 0..count {
@@ -113,11 +113,11 @@ fn mark_places(table: &[u8], what: Compared, count: usize, seen: &mut [u16], mar
 }
 
 // Zeros among the marks, which are ones at first. A table that is too long keeps its ones.
-pub fn mark(table: &[u8], what: Compared, marks: &mut [u8])
-    requires { (1600 ≤ length marks.old) × Marked (decode table.now) what marks.old }
-    ensures { Marked (decode table.now) what marks.new }
+pub fn mark(table: &[Record], what: Compared, marks: &mut [u8])
+    requires { (1600 ≤ length marks.old) × Marked table.now what marks.old }
+    ensures { Marked table.now what marks.new }
 {
-    let n = table::count(table);
+    let n = table.len();
     if MOST_RECORDS < n {
         return;
     }

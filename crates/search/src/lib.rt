@@ -5,20 +5,19 @@ pub mod members;
 mod targets;
 
 ghost use Rattle.std.specs.Prelude.{◌≡◌};
-ghost use Rattle.rules.specs.Table.{decode};
 ghost use Rattle.rules.specs.Places.{nearest, holds_at, first_from, first_within};
 
-use rules::Target;
-use targets::holds;
+use rules::{Record, Target};
+use targets::holds_at;
 
 // The searches are loops and not `find`, whose closure over the table and the target is no plainer.
 
 // The nearest place below `place`.
-pub fn nearest(table: &[u8], target: Target, place: usize) -> Option<usize>
-    ensures { result ≡ nearest (holds_at (decode table.now) target) place }
+pub fn nearest(table: &[Record], target: Target, place: usize) -> Option<usize>
+    ensures { result ≡ nearest (holds_at table.now target) place }
 {
     for q in (0..place).rev() {
-        if holds(table, target, q) {
+        if holds_at(table, target, q) {
             return Some(q);
         }
     }
@@ -26,11 +25,11 @@ pub fn nearest(table: &[u8], target: Target, place: usize) -> Option<usize>
 }
 
 // The first place from `from` on.
-pub fn first(table: &[u8], target: Target, from: usize) -> Option<usize>
-    ensures { result ≡ first_from (decode table.now) target from }
+pub fn first(table: &[Record], target: Target, from: usize) -> Option<usize>
+    ensures { result ≡ first_from table.now target from }
 {
-    for p in from..table::count(table) {
-        if holds(table, target, p) {
+    for p in from..table.len() {
+        if holds_at(table, target, p) {
             return Some(p);
         }
     }
@@ -38,8 +37,8 @@ pub fn first(table: &[u8], target: Target, from: usize) -> Option<usize>
 }
 
 // The first place of the declaration that `place` stands in, or of what follows it.
-pub fn first_within(table: &[u8], target: Target, place: usize) -> Option<usize>
-    ensures { result ≡ first_within (decode table.now) target place }
+pub fn first_within(table: &[Record], target: Target, place: usize) -> Option<usize>
+    ensures { result ≡ first_within table.now target place }
 {
     let decl = nearest(table, Target::Decl, place)?;
     first(table, target, decl + 1)

@@ -1,7 +1,6 @@
 // Pass 5, `check_size_fields`: repeated Size, Count and ElementSize fields.
 ghost use Rattle.std.specs.Prelude.{◌≡◌, ◌≤◌};
 ghost use Rattle.std.specs.Option.{option_to_list};
-ghost use Rattle.rules.specs.Table.{decode};
 ghost use Rattle.rules.specs.Kinds.{size};
 ghost use Rattle.rules.specs.SizeFields.{size_code, size_again};
 ghost use Rattle.repeats.specs.Marks.{Marked};
@@ -10,7 +9,7 @@ ghost use Rattle.repeats.specs.declared.marks.Compared.TheVariants.{Sizes, Eleme
 use kinds::is_size;
 use repeats::again_marked;
 use repeats::marks::Compared;
-use rules::{Fault, codes};
+use rules::{Fault, Record, codes};
 
 // How far the codes of Size, Count and ElementSize are apart.
 const CODES_EACH: u16 = codes::DUPLICATE_COUNT_FIELD - codes::DUPLICATE_SIZE_FIELD;
@@ -24,9 +23,9 @@ pub(crate) fn size_code(kind: u8) -> u16
 }
 
 // First a repeat: 23, 26, 29. Size and Count share one map, and ElementSize has its own.
-pub fn size_again(table: &[u8], sizes: &[u8], elements: &[u8], place: usize) -> Option<Fault>
-    requires { Marked (decode table.now) Sizes sizes.now × Marked (decode table.now) ElementSizes elements.now }
-    ensures { option_to_list result ≡ size_again (decode table.now) place }
+pub fn size_again(table: &[Record], sizes: &[u8], elements: &[u8], place: usize) -> Option<Fault>
+    requires { Marked table.now Sizes sizes.now × Marked table.now ElementSizes elements.now }
+    ensures { option_to_list result ≡ size_again table.now place }
 {
     let k = table::kind(table, place);
     if !is_size(k) {

@@ -1,14 +1,15 @@
 // Where pass 5's search for what a Size, Count or ElementSize names may start, so that few records are looked at.
 ghost use Rattle.std.specs.Prelude.{◌≡◌, ◌≤◌, length};
-ghost use Rattle.rules.specs.Table.{decode, at};
+ghost use Rattle.rules.specs.Table.{at};
 ghost use Rattle.size_fields.specs.SizeStarts.{SizeStarts, name_of, start_for, KeptPlaces, SettingStart, SettingStarts, Stepping};
 
 use kinds::{is_decl, is_size};
+use rules::Record;
 use table::{BODY_NAME, DIVISOR, NO_PLACE, PAYLOAD_NAME, REMAINDERS};
 
 // The only name by which a size can mean the record at `place`.
-fn name_of(table: &[u8], place: usize) -> u16
-    ensures { result ≡ name_of (at (decode table.now) place) }
+fn name_of(table: &[Record], place: usize) -> u16
+    ensures { result ≡ name_of (at table.now place) }
 {
     let k = table::kind(table, place);
     if k == kinds::PAYLOAD {
@@ -17,7 +18,7 @@ fn name_of(table: &[u8], place: usize) -> u16
     if k == kinds::BODY {
         return BODY_NAME;
     }
-    table::name(table, place)
+    table::at(table, place).name
 }
 
 // The places kept for the searches from a place on: by the remainder of a name the first that it may mean, and the next declaration.
@@ -37,19 +38,19 @@ impl Kept {
     }
 
     // The start for the record at `place`, if it is a size.
-    fn set_start(&self, table: &[u8], place: usize, starts: &mut [u16])
-        requires { SettingStart (decode table.now) place self.now.end self.now.last starts.old }
-        ensures { SizeStarts (decode table.now) starts.new }
+    fn set_start(&self, table: &[Record], place: usize, starts: &mut [u16])
+        requires { SettingStart table.now place self.now.end self.now.last starts.old }
+        ensures { SizeStarts table.now starts.new }
     {
         if is_size(table::kind(table, place)) {
-            starts[place] = self.start_for(table::second(table, place));
+            starts[place] = self.start_for(table::at(table, place).second);
         }
     }
 
     // The starts for the sizes of the declaration at `decl`, up to the next one.
-    fn set_starts(&self, table: &[u8], decl: usize, starts: &mut [u16])
-        requires { SettingStarts (decode table.now) decl self.now.end self.now.last starts.old }
-        ensures { SizeStarts (decode table.now) starts.new }
+    fn set_starts(&self, table: &[Record], decl: usize, starts: &mut [u16])
+        requires { SettingStarts table.now decl self.now.end self.now.last starts.old }
+        ensures { SizeStarts table.now starts.new }
     {
         for q in decl + 1..self.end {
             self.set_start(table, q, starts);
@@ -57,9 +58,9 @@ impl Kept {
     }
 
     // One place more.
-    fn step(&mut self, table: &[u8], place: usize, starts: &mut [u16])
-        requires { Stepping (decode table.now) place self.old.end self.old.last starts.old }
-        ensures { SizeStarts (decode table.now) starts.new × KeptPlaces (decode table.now) self.new.last self.new.end place × (4093 ≤ length self.new.last) }
+    fn step(&mut self, table: &[Record], place: usize, starts: &mut [u16])
+        requires { Stepping table.now place self.old.end self.old.last starts.old }
+        ensures { SizeStarts table.now starts.new × KeptPlaces table.now self.new.last self.new.end place × (4093 ≤ length self.new.last) }
     {
         if is_decl(table::kind(table, place)) {
             self.set_starts(table, place, starts);
@@ -71,11 +72,11 @@ impl Kept {
 }
 
 // Fills `starts`, in which no start is known at first: all places of the table, from the last to the first.
-pub fn fill(table: &[u8], starts: &mut [u16])
-    requires { (length (decode table.now) ≤ 1600) × (1600 ≤ length starts.old) × SizeStarts (decode table.now) starts.old }
-    ensures { SizeStarts (decode table.now) starts.new }
+pub fn fill(table: &[Record], starts: &mut [u16])
+    requires { (length table.now ≤ 1600) × (1600 ≤ length starts.old) × SizeStarts table.now starts.old }
+    ensures { SizeStarts table.now starts.new }
 {
-    let n = table::count(table);
+    let n = table.len();
     let mut kept = Kept {
         last: [NO_PLACE; REMAINDERS],
         end: n,

@@ -1,14 +1,13 @@
 // Pass 5, `check_size_fields`: Size, Count and ElementSize fields that name no array.
 ghost use Rattle.std.specs.Prelude.{◌≡◌, ◌+◌, ◌<◌};
 ghost use Rattle.std.specs.Option.{option_to_list};
-ghost use Rattle.rules.specs.Table.{decode};
 ghost use Rattle.rules.specs.SizeFields.{matching, is_sized, misnamed, size_target};
 ghost use Rattle.size_fields.specs.SizeStarts.{SizeStarts};
 
 use crate::duplicates::size_code;
 use crate::matches::first_match;
 use kinds::is_size;
-use rules::{Fault, Target, codes};
+use rules::{Fault, Record, Target, codes};
 
 // For Size a Payload also matches 1 and a Body 2.
 fn matching(kind: u8, name: u16) -> Target
@@ -32,14 +31,14 @@ const MISSING: u16 = codes::UNDECLARED_SIZE_IDENTIFIER - codes::DUPLICATE_SIZE_F
 const NO_ARRAY: u16 = codes::INVALID_SIZE_IDENTIFIER - codes::DUPLICATE_SIZE_FIELD;
 
 // Missing, or the first match no array.
-fn misnamed(code: u16, table: &[u8], place: usize, found: Option<usize>) -> Option<Fault>
+fn misnamed(code: u16, table: &[Record], place: usize, found: Option<usize>) -> Option<Fault>
     requires { code + 2 < 65536 }
-    ensures { option_to_list result ≡ misnamed code (decode table.now) place found }
+    ensures { option_to_list result ≡ misnamed code table.now place found }
 {
-    let r = records::at(table, place);
+    let r = table::at(table, place);
     match found {
         Some(q) => {
-            let s = records::at(table, q);
+            let s = table::at(table, q);
             let k = s.kind;
             if kinds::is_decl(k) {
                 return Some(faults::fault::single(code + MISSING, r));
@@ -54,11 +53,11 @@ fn misnamed(code: u16, table: &[u8], place: usize, found: Option<usize>) -> Opti
 }
 
 // Then missing 24, 27, 30, or no array 25, 28, 31.
-pub fn size_target(table: &[u8], starts: &[u16], place: usize) -> Option<Fault>
-    requires { SizeStarts (decode table.now) starts.now }
-    ensures { option_to_list result ≡ size_target (decode table.now) place }
+pub fn size_target(table: &[Record], starts: &[u16], place: usize) -> Option<Fault>
+    requires { SizeStarts table.now starts.now }
+    ensures { option_to_list result ≡ size_target table.now place }
 {
-    let r = records::at(table, place);
+    let r = table::at(table, place);
     if !is_size(r.kind) {
         return None;
     }

@@ -2,18 +2,20 @@
 #![tactic(auto)]
 
 ghost use Rattle.std.specs.Prelude.{◌≡◌, ◌+◌};
-ghost use Rattle.rules.specs.Table.{decode, at};
+ghost use Rattle.rules.specs.Table.{at};
 ghost use Rattle.walker.specs.Steps.{next_place};
+
+use rules::Record;
 
 #[derive(Clone, Copy)]
 struct Walker<'a> {
-    table: &'a [u8],
+    table: &'a [Record],
     place: usize,
 }
 
 impl<'a> Walker<'a> {
     // A walker at a place of a table.
-    fn new(table: &'a [u8], place: usize) -> Self
+    fn new(table: &'a [Record], place: usize) -> Self
         ensures { (result.table ≡ table.entry) × (result.place ≡ place) }
     {
         Walker { table, place }
@@ -21,7 +23,7 @@ impl<'a> Walker<'a> {
 
     // The kind of the record at the walker's place: 0 past the end.
     fn kind(self) -> u8
-        ensures { result ≡ (at (decode self.entry.table.now) self.entry.place).kind }
+        ensures { result ≡ (at self.entry.table.now self.entry.place).kind }
     {
         table::kind(self.table, self.place)
     }
@@ -29,9 +31,9 @@ impl<'a> Walker<'a> {
     // The walker at the next place; past the end it stays.
     #[tactic(auto, unfolding(crate::specs::Steps::next_place))]
     fn step(mut self) -> Self
-        ensures { (result.table ≡ self.entry.table) × (result.place ≡ next_place (decode self.entry.table.now) self.entry.place) }
+        ensures { (result.table ≡ self.entry.table) × (result.place ≡ next_place self.entry.table.now self.entry.place) }
     {
-        if self.place < table::count(self.table) {
+        if self.place < self.table.len() {
             self.place += 1;
         }
         self
@@ -40,8 +42,8 @@ impl<'a> Walker<'a> {
 
 // The kind of the record behind `place`: 0 past the end.
 #[tactic(auto, using(crate::proofs::Laws::at_next))]
-pub fn kind_after(table: &[u8], place: usize) -> u8
-    ensures { result ≡ (at (decode table.now) (place + 1)).kind }
+pub fn kind_after(table: &[Record], place: usize) -> u8
+    ensures { result ≡ (at table.now (place + 1)).kind }
 {
     Walker::new(table, place).step().kind()
 }

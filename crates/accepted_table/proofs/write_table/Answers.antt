@@ -5,7 +5,6 @@ use Prim.Native.Nat.{◌*◌, ◌≤◌}
 use lib.ListN.{length}
 use lib.Seq.{length-take-le}
 use Rattle.std.specs.Prelude.{◌≡◌}
-use Rattle.rules.specs.Table.{decode}
 use Rattle.rules.specs.InlineGroups.{inlined}
 use Rattle.accepted_table.proofs.Laws.{told-swollen, told-short, told-unfit, inlined-few, part-few, told-inlined}
 use Rattle.accepted_table.proofs.write_table.Goals as goal
@@ -13,7 +12,7 @@ use Rattle.accepted_table.proofs.write_table.Goals.{In-Ok}
 
 -- what the inlined table has, where it was made
 fits-few : (c : In-Ok)
-    → (c.in-Ok.n ≤ 1600) × (c.in-Ok.n ≡ length (inlined (decode c.args.listed.now))) × (40 * c.in-Ok.n ≤ length c.args.expanded.now)
+    → (c.in-Ok.n ≤ 1600) × (c.in-Ok.n ≡ length (inlined c.args.listed.now)) × (40 * c.in-Ok.n ≤ length c.args.expanded.now)
 fits-few c =
     inlined-few c.args.listed.now (λ k. omega (arith, c.type_inv.listed k)) c.args.expanded.now c.inline_groups.ensures.value.0 c.inline_groups.ensures.value.1 _ c.in-Ok.is
 

@@ -1,6 +1,5 @@
 -- The cycle of calls of `decl_visits::visit`, `decl_visits::take_up` and `decl_visits::walk` meets its contracts; the laws are in VisitReady. Assumes nothing.
 use Rattle.std.proofs.Common.{◌<◌, length, sym, arith}
-use Rattle.rules.specs.Table.{decode}
 use Rattle.decl_visits.proofs.VisitReady.{call-walk, call-own, call-list, ret-new, ret-open, ret-listed, ret-follow, ret-wrong, walk-start, walk-decl, walk-past, walk-skip, walk-call, walk-turn}
 use Rattle.decl_visits.proofs.+visit_walk.Goals as goal
 
@@ -42,18 +41,18 @@ walk-returns-then-is_decl t c = walk-decl _ c.loop-q.invariant (rw (← c.kind-k
 
 pub walk-loop-q-preserved-then-not-may_refer : goal.walk-loop-q-preserved-then-not-may_refer
 walk-loop-q-preserved-then-not-may_refer t c =
-    let l : c.loop-q.q < length (decode c.args.table.now) = omega (arith, c.count-q-end.ensures, c.loop-q-test.true) in
+    let l : c.loop-q.q < length c.args.table.now = omega (arith, c.count-q-end.ensures, c.loop-q-test.true) in
     walk-skip _ c.loop-q.invariant l (rw (← c.kind-k.ensures) (sym c.if-is_decl.ensures)) (rw (← c.kind-k.ensures) (sym c.if-not-may_refer.ensures))
 
 pub walk-take_up-requires : goal.walk-take_up-requires
 walk-take_up-requires t c =
-    let l : c.loop-q.q < length (decode c.args.table.now) = omega (arith, c.count-q-end.ensures, c.loop-q-test.true) in
+    let l : c.loop-q.q < length c.args.table.now = omega (arith, c.count-q-end.ensures, c.loop-q-test.true) in
     let h = walk-call _ c.loop-q.invariant l (rw (← c.kind-k.ensures) (sym c.if-is_decl.ensures)) c.field_reference-r.ensures c.decreases in
     (h.0, (h.1.0, h.1.1, c.requires.1))
 
 pub walk-loop-q-preserved : goal.walk-loop-q-preserved
 walk-loop-q-preserved t c =
-    let l : c.loop-q.q < length (decode c.args.table.now) = omega (arith, c.count-q-end.ensures, c.loop-q-test.true) in
+    let l : c.loop-q.q < length c.args.table.now = omega (arith, c.count-q-end.ensures, c.loop-q-test.true) in
     walk-turn _ c.loop-q.invariant l (rw (← c.kind-k.ensures) (sym c.if-is_decl.ensures)) c.field_reference-r.ensures _ _ _ _ c.take_up.ensures c.take_up.auto.places
 
 pub walk-returns : goal.walk-returns

@@ -1,6 +1,5 @@
 -- The measure of the cycle of `decl_visits::visit`, `decl_visits::take_up` and `decl_visits::walk`: three for each unvisited place, and which of the three it is.
 use Rattle.std.proofs.Common.{◌+◌, ◌*◌}
-use Rattle.rules.specs.Table.{decode}
 use Rattle.decl_visits.specs.Contract.{unvisited_count}
 use Rattle.decl_visits.proofs.VisitReady.{Walking}
 use Rattle.decl_visits.proofs.+visit_walk.Given as goal
@@ -15,4 +14,4 @@ abbrev pub decreases-walk : goal.decreases-walk
 decreases-walk l = unvisited_count l.marks.now * 3 + 2
 
 abbrev pub invariant-walk-loop-q : goal.invariant-walk-loop-q
-invariant-walk-loop-q l = Walking (decode l.table) l.place l.initial.marks l.initial.places l.initial.buffer l.initial.progress l.marks l.places l.buffer l.progress l.q
+invariant-walk-loop-q l = Walking l.table l.place l.initial.marks l.initial.places l.initial.buffer l.initial.progress l.marks l.places l.buffer l.progress l.q

@@ -1,6 +1,5 @@
 -- `decl_visits::visit_all` meets its contract: the places below p are taken up, and the rest makes the whole. Assumes nothing.
 use Rattle.std.proofs.Common.{refl, arith, ◌<◌, length}
-use Rattle.rules.specs.Table.{decode}
 use Rattle.decl_visits.proofs.Loop.{loop-start, loop-end, loop-call, loop-turn}
 use Rattle.decl_visits.proofs.visit_all.Goals as goal
 
@@ -10,13 +9,13 @@ loop-p-init c =
 
 pub take_up-requires : goal.take_up-requires
 take_up-requires c =
-    let l : c.loop-p.p < length (decode c.args.table.now) = omega (arith, c.count-p-end.ensures, c.loop-p-test.true) in
+    let l : c.loop-p.p < length c.args.table.now = omega (arith, c.count-p-end.ensures, c.loop-p-test.true) in
     let h = loop-call _ _ _ _ _ _ _ _ c.loop-p.invariant l c.root_reference-r.ensures in
     (h.0, h.1, c.requires.3)
 
 pub loop-p-preserved : goal.loop-p-preserved
 loop-p-preserved c =
-    let l : c.loop-p.p < length (decode c.args.table.now) = omega (arith, c.count-p-end.ensures, c.loop-p-test.true) in
+    let l : c.loop-p.p < length c.args.table.now = omega (arith, c.count-p-end.ensures, c.loop-p-test.true) in
     loop-turn _ _ _ _ _ _ _ _ c.loop-p.invariant l c.root_reference-r.ensures _ _ _ _ c.take_up.ensures c.take_up.auto.places
 
 pub returns : goal.returns

@@ -1,7 +1,6 @@
 -- `decl_visits::visit_all` meets its contract: the places below p are taken up, and the rest makes the whole. Assumes nothing.
-use Rattle.rules.specs.Table.{decode}
 use Rattle.decl_visits.proofs.Loop.{Turn}
 use Rattle.decl_visits.proofs.visit_all.Given as goal
 
 abbrev pub invariant-loop-p : goal.invariant-loop-p
-invariant-loop-p l = Turn (decode l.table) l.initial.places l.initial.buffer l.marks l.places l.buffer l.progress l.p
+invariant-loop-p l = Turn l.table l.initial.places l.initial.buffer l.marks l.places l.buffer l.progress l.p

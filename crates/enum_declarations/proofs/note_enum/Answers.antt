@@ -1,6 +1,5 @@
 -- `enum_declarations::note_enum` meets its contract. Assumes nothing.
 use native.Mathlib.Omega.{arith}
-use Rattle.rules.specs.Table.{decode}
 use Rattle.rules.specs.EnumDeclarations.{tags_faults, enum_faults}
 use Rattle.faults.proofs.Laws.{noted-then, total-after}
 use Rattle.enum_tags.proofs.Held.{bounds-ordered, bounds-paired}
@@ -14,7 +13,7 @@ invariant_of-bounds c =
 
 pub note_overlaps-requires : goal.note_overlaps-requires
 note_overlaps-requires c =
-    let rs = decode c.args.marked.now.table.now in
+    let rs = c.args.marked.now.table.now in
     let after = total-after _ _ (tags_faults rs c.args.decl c.args.count) c.note_tags-kept.ensures in
     let few = tags-few rs c.args.decl c.args.count (omega (arith, c.requires)) in
     (omega (arith, c.requires, c.arrange-m.ensures.0), omega (arith, c.requires))

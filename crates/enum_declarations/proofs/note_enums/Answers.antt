@@ -2,7 +2,6 @@
 use borrow.Author.Rules.{rules}
 use native.Mathlib.Omega.{arith}
 use mathlib.Core.Path.{refl, ◌∙◌}
-use Rattle.rules.specs.Table.{decode}
 use Rattle.rules.specs.EnumDeclarations.{pass4}
 use Rattle.faults.specs.Notes.{no_faults}
 use Rattle.faults.proofs.Laws.{noted-start, noted-place, noted-end, noted-logged, each-total}
@@ -14,7 +13,7 @@ loop-d-init c = rw c.no_faults-tally.ensures (noted-start _ _)
 
 pub note_place-tally-requires : goal.note_place-tally-requires
 note_place-tally-requires c =
-    let total = each-total _ 3000000 c.loop-d.d no_faults _ (place-few (decode c.args.marked.now.table.now) (search rules)) c.loop-d.invariant in
+    let total = each-total _ 3000000 c.loop-d.d no_faults _ (place-few c.args.marked.now.table.now (search rules)) c.loop-d.invariant in
     (search rules, search rules, omega arith)
 
 pub loop-d-preserved : goal.loop-d-preserved

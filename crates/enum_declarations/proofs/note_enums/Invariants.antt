@@ -1,6 +1,5 @@
 -- `enum_declarations::note_enums` meets its contract: after d turns the faults of the places below d are noted. Assumes nothing.
 use mathlib.Core.Path.{◌≡◌}
-use Rattle.rules.specs.Table.{decode}
 use Rattle.rules.specs.Places.{each}
 use Rattle.rules.specs.Faults.{log}
 use Rattle.rules.specs.EnumDeclarations.{pass4_at}
@@ -8,4 +7,4 @@ use Rattle.faults.specs.Notes.{no_faults, noted_all}
 use Rattle.enum_declarations.proofs.note_enums.Given as goal
 
 abbrev pub invariant-loop-d : goal.invariant-loop-d
-invariant-loop-d l = log l.tally l.buffer ≡ noted_all (log no_faults l.initial.buffer) (each (pass4_at (decode l.marked.table.now)) l.d)
+invariant-loop-d l = log l.tally l.buffer ≡ noted_all (log no_faults l.initial.buffer) (each (pass4_at l.marked.table.now) l.d)

@@ -1,7 +1,6 @@
 -- `enum_declarations::note_tags` meets its contract: after i turns the faults of the first i tags are noted. Assumes nothing.
 use Prim.Native.Nat.{◌+◌}
 use mathlib.Core.Path.{◌≡◌}
-use Rattle.rules.specs.Table.{decode}
 use Rattle.rules.specs.Places.{each}
 use Rattle.rules.specs.Faults.{log}
 use Rattle.rules.specs.EnumDeclarations.{tag_faults}
@@ -11,5 +10,5 @@ use Rattle.enum_declarations.proofs.note_tags.Given as goal
 
 abbrev pub invariant-loop-i : goal.invariant-loop-i
 invariant-loop-i l =
-    (log l.kept l.buffer ≡ noted_all (log l.initial.kept l.initial.buffer) (each (λ j. tag_faults (decode l.tags.marked.table.now) l.tags.decl l.tags.count (l.tags.decl + 1 + j)) l.i))
-    × (range_before (decode l.tags.marked.table.now) (l.tags.decl + 1 + l.i) ≡ range_before (decode l.tags.marked.table.now) l.after)
+    (log l.kept l.buffer ≡ noted_all (log l.initial.kept l.initial.buffer) (each (λ j. tag_faults l.tags.marked.table.now l.tags.decl l.tags.count (l.tags.decl + 1 + j)) l.i))
+    × (range_before l.tags.marked.table.now (l.tags.decl + 1 + l.i) ≡ range_before l.tags.marked.table.now l.after)

@@ -3,7 +3,6 @@ use borrow.Author.Rules.{rules}
 use native.Mathlib.Omega.{arith}
 use borrow.Author.Tests.{ne_eqb}
 use mathlib.Core.Path.{sym, ◌∙◌}
-use Rattle.rules.specs.Table.{decode}
 use Rattle.rules.specs.EnumDeclarations.{value_faults, held, tag_faults}
 use Rattle.faults.proofs.Laws.{noted-none, noted-then, total-after}
 use Rattle.enum_tags.proofs.Laws.{value-few, tag-value}
@@ -11,13 +10,13 @@ use Rattle.enum_tags.proofs.note_tag.Goals as goal
 
 pub note_held-requires : goal.note_held-requires
 note_held-requires c =
-    let rs = decode c.args.tags.now.marked.table.now in
+    let rs = c.args.tags.now.marked.table.now in
     let after = total-after _ _ (value_faults rs 0 c.scalar_max-most.result c.args.place) c.note_value-kept.ensures in
     omega (arith, value-few rs 0 c.scalar_max-most.result c.args.place)
 
 pub returns-in-40 : goal.returns-in-40
 returns-in-40 c =
-    let rs = decode c.args.tags.now.marked.table.now in
+    let rs = c.args.tags.now.marked.table.now in
     let both = noted-then _ (value_faults rs 0 c.scalar_max-most.result c.args.place) (held rs c.args.tags.now.decl c.args.tags.now.count c.args.place) in
     let tag = tag-value rs c.args.tags.now.decl c.args.tags.now.count c.args.place (sym c.kind.ensures ∙ c.in-40.is) in
     rw (← tag, ← c.at.ensures, ← c.scalar_max-most.ensures) (both c.note_value-kept.ensures c.note_held.ensures)

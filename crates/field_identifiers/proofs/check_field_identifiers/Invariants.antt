@@ -2,7 +2,6 @@
 -- Assumes nothing.
 use Prim.Native.Nat.{◌≤◌}
 use mathlib.Core.Path.{◌≡◌}
-use Rattle.rules.specs.Table.{decode}
 use Rattle.rules.specs.Places.{each}
 use Rattle.rules.specs.Faults.{log}
 use Rattle.rules.specs.FieldIdentifiers.{pass3_at}
@@ -11,4 +10,4 @@ use Rattle.field_identifiers.proofs.check_field_identifiers.Given as goal
 
 abbrev pub invariant-loop-p : goal.invariant-loop-p
 invariant-loop-p l =
-    (log l.tally l.buffer ≡ noted_all (log no_faults l.initial.buffer) (each (pass3_at (decode l.table)) l.p)) × (l.tally.total ≤ l.p)
+    (log l.tally l.buffer ≡ noted_all (log no_faults l.initial.buffer) (each (pass3_at l.table) l.p)) × (l.tally.total ≤ l.p)

@@ -1,7 +1,6 @@
 -- `field_identifiers::note_at` meets its contract. Assumes nothing.
 use native.Mathlib.Omega.{arith}
 use mathlib.Core.Path.{ap, ◌∙◌}
-use Rattle.rules.specs.Table.{decode}
 use Rattle.rules.specs.Faults.{Log, log}
 use Rattle.faults.specs.Notes.{noted_all}
 use Rattle.faults.proofs.Laws.{noted-none, noted-total}
@@ -10,7 +9,7 @@ use Rattle.field_identifiers.proofs.note_at.Goals as goal
 
 pub returns-then-not-marked-named : goal.returns-then-not-marked-named
 returns-then-not-marked-named c =
-    let l = passed_over (decode c.args.table.now) c.args.names.now c.args.place c.requires.1 (rw (← c.mark_at-marked.ensures, ← c.kind.ensures, ← c.is_named_field-named.ensures) (c.if-not-marked-named.true)) in
+    let l = passed_over c.args.table.now c.args.names.now c.args.place c.requires.1 (rw (← c.mark_at-marked.ensures, ← c.kind.ensures, ← c.is_named_field-named.ensures) (c.if-not-marked-named.true)) in
     (noted-none _ ∙ ap (noted_all _) l, omega arith)
 
 pub returns : goal.returns

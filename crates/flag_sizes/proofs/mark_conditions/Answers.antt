@@ -3,7 +3,7 @@ use mathlib.Core.Path.{◌≡◌, sym, ◌∙◌}
 use mathlib.Core.Bool.{false}
 use native.Mathlib.Omega.{arith}
 use Rattle.rules.specs.Kinds.{is_decl}
-use Rattle.rules.specs.Table.{decode, at}
+use Rattle.rules.specs.Table.{at}
 use Rattle.flag_sizes.proofs.Marks.{stamping-decl, stamping-end, stamping-other, stamping-one}
 use Rattle.flag_sizes.proofs.mark_conditions.Goals as goal
 use Rattle.flag_sizes.proofs.mark_conditions.Goals.{then-kind-eq-CONDITION, else-kind-eq-CONDITION}
@@ -14,7 +14,7 @@ returns-then-is_decl c =
 
 pub loop-p-preserved : goal.loop-p-preserved
 loop-p-preserved c =
-    let inside : is_decl (at (decode c.args.table.now) c.loop-p.p).kind ≡ false = rw (← c.kind-kind.ensures) (sym c.is_decl.ensures ∙ c.if-is_decl.false) in
+    let inside : is_decl (at c.args.table.now c.loop-p.p).kind ≡ false = rw (← c.kind-kind.ensures) (sym c.is_decl.ensures ∙ c.if-is_decl.false) in
     elim c.if-kind-eq-CONDITION.branch [
       | then-kind-eq-CONDITION w ↦ rw (w.marks-is, w.from-h.ensures) (stamping-one c.loop-p.invariant (omega (arith, c.count-p-end.ensures)) inside w.name.ensures)
       | else-kind-eq-CONDITION w ↦

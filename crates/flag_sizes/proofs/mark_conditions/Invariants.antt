@@ -1,7 +1,6 @@
 -- The conditions that the loop has passed are stamped.
-use Rattle.rules.specs.Table.{decode}
 use Rattle.flag_sizes.proofs.Marks.{Stamping}
 use Rattle.flag_sizes.proofs.mark_conditions.Given as goal
 
 abbrev pub invariant-loop-p : goal.invariant-loop-p
-invariant-loop-p l = Stamping (decode l.table) l.marks l.from l.p
+invariant-loop-p l = Stamping l.table l.marks l.from l.p

@@ -2,7 +2,6 @@
 use native.Mathlib.Omega.{arith}
 use mathlib.Core.Path.{sym, ◌∙◌}
 use Prim.Native.Nat.{◌+◌}
-use Rattle.rules.specs.Table.{decode}
 use Rattle.flag_sizes.proofs.Laws.{start-bound}
 use Rattle.flag_sizes.proofs.mark_next.Goals as goal
 
@@ -14,7 +13,7 @@ returns-then-next-members c = (sym c.if-next-members.true ∙ c.next_start-next.
 
 pub mark_conditions-requires : goal.mark_conditions-requires
 mark_conditions-requires c =
-    (start-bound (decode c.args.table.now) (c.args.place + 1) c.next_start-next.ensures (omega (arith, c.requires.0)), c.requires.2.long)
+    (start-bound c.args.table.now (c.args.place + 1) c.next_start-next.ensures (omega (arith, c.requires.0)), c.requires.2.long)
 
 pub returns : goal.returns
 returns c = (c.next_start-next.ensures, c.mark_conditions.ensures)

@@ -1,6 +1,5 @@
 -- What the loop has counted, and where the members of its place start.
 use mathlib.Core.Path.{◌≡◌}
-use Rattle.rules.specs.Table.{decode}
 use Rattle.rules.specs.DesugarFlags.{members_start}
 use Rattle.flag_sizes.specs.Counts.{ConditionsStamped, Counted}
 use Rattle.flag_sizes.proofs.Laws.{size_below}
@@ -8,4 +7,4 @@ use Rattle.flag_sizes.proofs.total.Given as goal
 
 abbrev pub invariant-loop-p : goal.invariant-loop-p
 invariant-loop-p l =
-    (l.n ≡ size_below (decode l.table) l.p) × (l.a ≡ members_start (decode l.table) l.p) × Counted (decode l.table) l.counts l.p × ConditionsStamped (decode l.table) l.marks l.a
+    (l.n ≡ size_below l.table l.p) × (l.a ≡ members_start l.table l.p) × Counted l.table l.counts l.p × ConditionsStamped l.table l.marks l.a

@@ -1,7 +1,6 @@
 -- What the places below the loop's become is written.
-use Rattle.rules.specs.Table.{decode}
 use Rattle.flag_table.proofs.Laws.{Filled}
 use Rattle.flag_table.proofs.write_all.Given as goal
 
 abbrev pub invariant-loop-p : goal.invariant-loop-p
-invariant-loop-p l = Filled (decode l.table) l.initial.out l.out l.n l.a l.p
+invariant-loop-p l = Filled l.table l.initial.out l.out l.n l.a l.p

@@ -1,13 +1,12 @@
 -- `group_sizes::size_after` meets its contract: what is counted and what is left make the whole. Assumes nothing.
 use Rattle.std.proofs.Common.{arith, sym, ◌∙◌, inl, inr}
-use Rattle.rules.specs.Table.{decode}
 use Rattle.group_sizes.proofs.Fields.{Seen}
 use Rattle.group_sizes.proofs.Measures.{sizing-start, sizing-next, sizing-end, target-in}
 use Rattle.group_sizes.proofs.size_after.Goals as goal
 use Rattle.group_sizes.proofs.size_after.Goals.{After-is_constraint_or_condition-c}
 
 -- the facts of a turn past its first tests
-seen : (c : After-is_constraint_or_condition-c) → Seen (decode c.args.table.now) c.loop-p.p c.kind-k.result c.is_constraint_or_condition-c.result
+seen : (c : After-is_constraint_or_condition-c) → Seen c.args.table.now c.loop-p.p c.kind-k.result c.is_constraint_or_condition-c.result
 seen c =
     let e = c.kind-k.ensures in
     record {

@@ -1,7 +1,6 @@
 -- `group_table::write_all` meets its contract: what the records below d become is written. Assumes nothing.
-use Rattle.rules.specs.Table.{decode}
 use Rattle.group_table.proofs.Loop.{Writing}
 use Rattle.group_table.proofs.write_all.Given as goal
 
 abbrev pub invariant-loop-d : goal.invariant-loop-d
-invariant-loop-d l = Writing (decode l.table) l.sizes l.initial.out l.env l.out l.s l.d
+invariant-loop-d l = Writing l.table l.sizes l.initial.out l.env l.out l.s l.d

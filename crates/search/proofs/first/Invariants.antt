@@ -5,4 +5,4 @@ use Rattle.rules.specs.Places.{first_from}
 use Rattle.search.proofs.first.Given as goal
 
 abbrev pub invariant-loop-p : goal.invariant-loop-p
-invariant-loop-p l = first_from (decode l.table) l.target l.from ≡ first_from (decode l.table) l.target l.p
+invariant-loop-p l = first_from l.table l.target l.from ≡ first_from l.table l.target l.p

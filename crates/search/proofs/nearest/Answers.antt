@@ -3,15 +3,15 @@ use mathlib.Core.Path.{sym, ◌∙◌}
 use Rattle.table.proofs.Laws.{down-hit, down-miss, down-end}
 use Rattle.search.proofs.nearest.Goals as goal
 
-pub returns-then-holds : goal.returns-then-holds
-returns-then-holds c =
+pub returns-then-holds_at : goal.returns-then-holds_at
+returns-then-holds_at c =
     let l = c.loop-q in
-    down-hit _ _ l.q l.invariant c.loop-q-test.true (sym c.holds.ensures ∙ c.if-holds.true)
+    down-hit _ _ l.q l.invariant c.loop-q-test.true (sym c.holds_at.ensures ∙ c.if-holds_at.true)
 
 pub loop-q-preserved : goal.loop-q-preserved
 loop-q-preserved c =
     let l = c.loop-q in
-    down-miss _ _ l.q l.invariant c.loop-q-test.true (sym c.holds.ensures ∙ c.if-holds.false)
+    down-miss _ _ l.q l.invariant c.loop-q-test.true (sym c.holds_at.ensures ∙ c.if-holds_at.false)
 
 pub returns : goal.returns
 returns c = down-end _ _ c.loop-q.q c.loop-q.invariant c.loop-q-test.false

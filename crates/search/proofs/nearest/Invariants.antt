@@ -5,4 +5,4 @@ use Rattle.rules.specs.Places.{nearest, holds_at}
 use Rattle.search.proofs.nearest.Given as goal
 
 abbrev pub invariant-loop-q : goal.invariant-loop-q
-invariant-loop-q l = nearest (holds_at (decode l.table) l.target) l.place ≡ nearest (holds_at (decode l.table) l.target) l.q
+invariant-loop-q l = nearest (holds_at l.table l.target) l.place ≡ nearest (holds_at l.table l.target) l.q

@@ -1,7 +1,6 @@
 -- `declarations::starts::fill` meets its contract: the starts are those from the place on. Assumes nothing.
-use Rattle.rules.specs.Table.{decode}
 use Rattle.declarations.specs.Starts.{StartsFrom}
 use Rattle.declarations.proofs.starts.fill.Given as goal
 
 abbrev pub invariant-loop-place : goal.invariant-loop-place
-invariant-loop-place l = StartsFrom (decode l.table) l.starts l.place
+invariant-loop-place l = StartsFrom l.table l.starts l.place

@@ -3,7 +3,6 @@ use borrow.Author.Rules.{rules}
 use native.Mathlib.Omega.{arith}
 use Prim.Native.Nat.{◌+◌}
 use lib.ListN.{get_or}
-use Rattle.rules.specs.Table.{decode}
 use Rattle.rules.specs.EnumDeclarations.{overlaps}
 use Rattle.faults.proofs.Laws.{noted-start, noted-place, noted-end, each-total}
 use Rattle.enum_ranges.proofs.overlaps.Laws.{overlap-few}
@@ -14,7 +13,7 @@ loop-j-init c = noted-start _ _
 
 pub note_found-kept-requires : goal.note_found-kept-requires
 note_found-kept-requires c =
-    omega (arith, each-total _ 1 c.loop-j.j _ _ (λ i. overlap-few (decode c.args.table.now) (get_or c.args.places.now i 0) (get_or c.args.places.now (i + 1) 0)) c.loop-j.invariant)
+    omega (arith, each-total _ 1 c.loop-j.j _ _ (λ i. overlap-few c.args.table.now (get_or c.args.places.now i 0) (get_or c.args.places.now (i + 1) 0)) c.loop-j.invariant)
 
 pub loop-j-preserved : goal.loop-j-preserved
 loop-j-preserved c =

@@ -1,7 +1,6 @@
 -- `repeats::marks::mark_places` meets its contract: the marks and the stamps are those of the places below p. Assumes nothing.
-use Rattle.rules.specs.Table.{decode}
 use Rattle.repeats.specs.Marks.{Marked, Stamped}
 use Rattle.repeats.proofs.marks.mark_places.Given as goal
 
 abbrev pub invariant-loop-p : goal.invariant-loop-p
-invariant-loop-p l = Marked (decode l.table) l.what l.marks × Stamped (decode l.table) l.what l.seen l.stamp l.p
+invariant-loop-p l = Marked l.table l.what l.marks × Stamped l.table l.what l.seen l.stamp l.p

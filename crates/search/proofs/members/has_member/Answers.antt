@@ -5,11 +5,11 @@ use Rattle.rules.specs.Places.{found_inside}
 use Rattle.search.proofs.members.Laws.{none-past}
 use Rattle.search.proofs.members.has_member.Goals as goal
 
-pub returns-then-decl-count : goal.returns-then-decl-count
+pub returns-then-decl-table : goal.returns-then-decl-table
 unfolding found_inside
-returns-then-decl-count c = grind (arith, common_steps)
+returns-then-decl-table c = grind (arith, common_steps)
 
-pub returns-else-decl-count : goal.returns-else-decl-count
-returns-else-decl-count c =
-    let z = none-past _ c.args.target _ (rw c.count.ensures at c.if-decl-count.false) in
+pub returns-else-decl-table : goal.returns-else-decl-table
+returns-else-decl-table c =
+    let z = none-past _ c.args.target _ c.if-decl-table.false in
     grind (arith, common_steps)

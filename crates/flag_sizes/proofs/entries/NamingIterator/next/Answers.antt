@@ -2,14 +2,14 @@
 use Rattle.std.proofs.Common.{sym, ap, ◌∙◌, ◌≡◌, length, false}
 use native.Mathlib.Omega.{arith}
 use Rattle.rules.specs.Kinds.{is_decl}
-use Rattle.rules.specs.Table.{decode, at}
+use Rattle.rules.specs.Table.{at}
 use Rattle.flag_sizes.proofs.Laws.{naming-decl, naming-end, naming-hit, naming-miss}
 use Rattle.flag_sizes.proofs.entries.NamingIterator.next.Goals as goal
 
 pub returns-then-is_decl-clause-steps : goal.returns-then-is_decl-clause-steps
 returns-then-is_decl-clause-steps c =
     let v = c.loop-p.invariant in
-    let rs = decode c.args.self.now.table.now in
+    let rs = c.args.self.now.table.now in
     let k = rw v.1 at c.kind.ensures in
     let nil = sym (naming-decl rs c.args.self.now.flag c.loop-p.p (rw (← k) (sym c.is_decl.ensures ∙ c.if-is_decl.true))) in
     let all = v.3 ∙ nil in (all, rw (v.0, v.1, v.2) all)
@@ -17,7 +17,7 @@ returns-then-is_decl-clause-steps c =
 pub returns-then-is_condition_on-clause-steps : goal.returns-then-is_condition_on-clause-steps
 returns-then-is_condition_on-clause-steps c =
     let v = c.loop-p.invariant in
-    let rs = decode c.args.self.now.table.now in
+    let rs = c.args.self.now.table.now in
     let k = rw v.1 at c.kind.ensures in
     let inside : is_decl (at rs c.loop-p.p).kind ≡ false = rw (← k) (sym c.is_decl.ensures ∙ c.if-is_decl.false) in
     let hit = rw (v.1, v.2) at c.is_condition_on.ensures in
@@ -31,7 +31,7 @@ returns-then-is_condition_on-clause-goes c =
 pub loop-p-preserved : goal.loop-p-preserved
 loop-p-preserved c =
     let v = c.loop-p.invariant in
-    let rs = decode c.args.self.now.table.now in
+    let rs = c.args.self.now.table.now in
     let k = rw v.1 at c.kind.ensures in
     let inside : is_decl (at rs c.loop-p.p).kind ≡ false = rw (← k) (sym c.is_decl.ensures ∙ c.if-is_decl.false) in
     let miss = rw (v.1, v.2) at c.is_condition_on.ensures in
@@ -40,6 +40,6 @@ loop-p-preserved c =
 pub returns-clause-steps : goal.returns-clause-steps
 returns-clause-steps c =
     let v = c.loop-p.invariant in
-    let rs = decode c.args.self.now.table.now in
+    let rs = c.args.self.now.table.now in
     let nil = sym (naming-end rs c.args.self.now.flag c.loop-p.p (omega (arith, c.count-p-end.ensures))) in
     let all = v.3 ∙ nil in (all, rw (v.0, v.1, v.2) all)

@@ -1,0 +1,8 @@
+-- `records::read` meets its contract: the first records are those of the bytes. Assumes nothing.
+use mathlib.Core.Path.{◌≡◌}
+use lib.ListN.{length, take}
+use Rattle.rules.specs.Table.{decode}
+use Rattle.records.proofs.read.Given as goal
+
+abbrev pub invariant-loop-place : goal.invariant-loop-place
+invariant-loop-place l = (length l.table ≡ length l.fn.table) × (take l.place l.table ≡ take l.place (decode l.bytes))
