@@ -18,7 +18,7 @@ fn lookup(table: &[Record], env: &[u16], name: u16) -> Option<u16>
     env.iter()
         .rev()
         .copied()
-        .find(|q| table::name(table, usize::from(*q)) == name)
+        .find(|q| table::at(table, usize::from(*q)).name == name)
 }
 
 // A Scalar that `constraint` fixes; it needs a value.
@@ -58,7 +58,12 @@ fn fixed_enum(typedef: Record, constraint: Record) -> Inlined
 }
 
 // `r` as `fix` makes it from the constraint that holds, or as it is where none does.
-fn under<F: Fn(Record, Record) -> Inlined>(table: &[Record], env: &[u16], r: Record, fix: F) -> Inlined
+fn under<F: Fn(Record, Record) -> Inlined>(
+    table: &[Record],
+    env: &[u16],
+    r: Record,
+    fix: F,
+) -> Inlined
     requires { F.IsAlwaysCallable fix }
     ensures { MatchOption (lookup table.now env.now r.name) (result ≡ kept r) (λ q. F.post fix r (at table.now q) result) }
 {
