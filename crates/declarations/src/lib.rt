@@ -3,39 +3,59 @@
 
 pub mod starts;
 
-ghost use Rattle.std.specs.Prelude.{◌≡◌, ◌%◌, get_or};
+ghost use Rattle.std.specs.Prelude.{◌≡◌, ◌%◌, IfSome, get_or};
 ghost use Rattle.rules.specs.Table.{at};
 ghost use Rattle.rules.specs.Places.{nearest, holds_at, decl_named};
 ghost use Rattle.rules.specs.declared.Target.TheVariants.{DeclNamed};
 ghost use Rattle.declarations.specs.Starts.{Starts};
+ghost use Rattle.std.proofs.Props.{props};
 
 use rules::{Record, Target};
-use table::DIVISOR;
+use table::{DIVISOR, REMAINDERS};
 
-// The start for a name: place 0 where the array has none.
-fn start(starts: &[u16], name: u16) -> usize
-    ensures { result ≡ get_or starts.now (name % 4093) 0 }
-{
-    let h = usize::from(name % DIVISOR);
-    starts.get(h).map_or(0, |s| usize::from(*s))
+// A table, with places where the searches for the names of its declarations may start, by the remainders of the names.
+#[derive(Clone, Copy)]
+pub struct Names<'a> {
+    pub table: &'a [Record],
+    pub starts: &'a [u16],
+    pub ghost known: { Starts table.now starts.now } by { Prim.hlevel props },
 }
 
-// The declaration of a name.
-pub fn decl_named(table: &[Record], starts: &[u16], name: u16) -> Option<usize>
-    requires { Starts table.now starts.now }
-    ensures { result ≡ decl_named table.now name }
-{
-    search::first(table, Target::DeclNamed(name), start(starts, name))
-}
-
-// The nearest declaration before `place` that has the name of the record at `place`.
-pub fn earlier(table: &[Record], starts: &[u16], place: usize) -> Option<usize>
-    requires { Starts table.now starts.now }
-    ensures { result ≡ nearest (holds_at table.now (DeclNamed (at table.now place).name)) place }
-{
-    let name = table::at(table, place).name;
-    if (start(starts, name) == place) & (place < table.len()) {
-        return None;
+impl<'a> Names<'a> {
+    // With the starts that are known of the table, if any.
+    pub fn new(table: &'a [Record], starts: &'a Option<[u16; REMAINDERS]>) -> Self
+        requires { IfSome starts.now (λ s. Starts table.now s) }
+        ensures { result.table ≡ table.entry }
+    {
+        match starts {
+            Some(s) => Names { table, starts: s },
+            None => Names { table, starts: &[] },
+        }
     }
-    search::nearest(table, Target::DeclNamed(name), place)
+
+    // The start for a name: place 0 where none is known.
+    fn start(&self, name: u16) -> usize
+        ensures { result ≡ get_or self.now.starts.now (name % 4093) 0 }
+    {
+        let h = usize::from(name % DIVISOR);
+        self.starts.get(h).map_or(0, |s| usize::from(*s))
+    }
+
+    // The declaration of a name.
+    pub fn decl_named(&self, name: u16) -> Option<usize>
+        ensures { result ≡ decl_named self.now.table.now name }
+    {
+        search::first(self.table, Target::DeclNamed(name), self.start(name))
+    }
+
+    // The nearest declaration before `place` that has the name of the record at `place`.
+    pub fn earlier(&self, place: usize) -> Option<usize>
+        ensures { result ≡ nearest (holds_at self.now.table.now (DeclNamed (at self.now.table.now place).name)) place }
+    {
+        let name = table::at(self.table, place).name;
+        if (self.start(name) == place) & (place < self.table.len()) {
+            return None;
+        }
+        search::nearest(self.table, Target::DeclNamed(name), place)
+    }
 }

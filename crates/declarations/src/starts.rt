@@ -1,10 +1,10 @@
 // Where the search for the declaration of a name may start, so that few records are looked at.
-ghost use Rattle.std.specs.Prelude.{◌≡◌, true, ◌+◌, ◌<◌, ◌≤◌, length, replicate};
+ghost use Rattle.std.specs.Prelude.{◌≡◌, true, ◌+◌, ◌<◌, ◌≤◌, IfSome, length, replicate};
 ghost use Rattle.declarations.specs.Starts.{StartsFrom, Starts};
 
 use rules::Record;
 use rules::limits::MOST_RECORDS;
-use table::{DIVISOR, FEW_RECORDS};
+use table::{DIVISOR, FEW_RECORDS, NO_PLACE, REMAINDERS};
 
 // Whether the table has so many records that arrays by remainder spare time, and not too many for their places.
 pub fn is_large(table: &[Record]) -> bool
@@ -26,11 +26,23 @@ fn set_start(table: &[Record], place: usize, starts: &mut [u16])
 }
 
 // Fills the starts, which are past every table at first, from the last place to the first.
-pub fn fill(table: &[Record], starts: &mut [u16])
+fn fill(table: &[Record], starts: &mut [u16])
     requires { (length table.now ≤ 1600) × (starts.old ≡ replicate 4093 65535) }
     ensures { Starts table.now starts.new }
 {
     for place in (0..table.len()).rev() {
         set_start(table, place, starts);
     }
+}
+
+// The starts, where the table is so large that they spare time.
+pub fn known(table: &[Record]) -> Option<[u16; REMAINDERS]>
+    ensures { IfSome result (λ s. Starts table.now s) }
+{
+    if !is_large(table) {
+        return None;
+    }
+    let mut starts = [NO_PLACE; REMAINDERS];
+    fill(table, &mut starts);
+    Some(starts)
 }

@@ -7,7 +7,7 @@ use Rattle.declarations.proofs.starts.Laws.{starts-past}
 use Rattle.declarations.proofs.starts.fill.Goals as goal
 
 pub loop-place-init : goal.loop-place-init
-loop-place-init c = rw c.count-place.ensures (starts-past _ _ c.requires.0 c.requires.1)
+loop-place-init c = starts-past _ _ c.requires.0 c.requires.1
 
 pub set_start-requires : goal.set_start-requires
 set_start-requires c =

@@ -1,11 +1,12 @@
 -- `declarations::starts::set_start` meets its contract. Assumes nothing.
-use mathlib.Core.Path.{sym, ◌∙◌}
+use mathlib.Core.Path.{sym, ap, ◌∙◌}
+use Rattle.rules.specs.declared.Record.{Record}
 use Rattle.declarations.proofs.starts.Laws.{start_none, start-here}
 use Rattle.declarations.proofs.starts.set_start.Goals as goal
 
 pub returns-then-is_named_decl : goal.returns-then-is_named_decl
 returns-then-is_named_decl c =
-    rw c.from-h.ensures (start-here _ _ _ c.requires.0 c.requires.3 _ c.name.ensures c.requires.2)
+    rw c.from-h.ensures (start-here _ _ _ c.requires.0 c.requires.3 _ (ap (λ (r : Record). r.name) c.at.ensures) c.requires.2)
 
 pub returns-else-is_named_decl : goal.returns-else-is_named_decl
 returns-else-is_named_decl c =

@@ -1,7 +1,0 @@
--- `declarations::decl_named` meets its contract. Assumes nothing.
-use mathlib.Core.Path.{◌∙◌}
-use Rattle.declarations.proofs.Laws.{named-from}
-use Rattle.declarations.proofs.decl_named.Goals as goal
-
-pub returns : goal.returns
-returns c = c.first.ensures ∙ named-from _ c.requires _ _ c.start.ensures
