@@ -37,9 +37,9 @@ target_of ElementSizes n = ElementSizeOrDecl n
 unfoldable pub has_earlier : List Record → Compared → ℕ → ℕ → Bool
 has_earlier rs what n p = found_inside rs (nearest (holds_at rs (target_of what n)) p)
 
--- where the mark is 0 no earlier record of the declaration has the same name or value; past the marks it counts as 1
-pub record Marked (rs : List Record) (what : Compared) (marks : List ℕ) : Type 0 where
-  pub clear : (p : ℕ) → get_or marks p 1 ≡ 0 → has_earlier rs what (compared_of what (at rs p)) p ≡ false
+-- where the mark is false no earlier record of the declaration has the same name or value; past the marks it counts as true
+pub record Marked (rs : List Record) (what : Compared) (marks : List Bool) : Type 0 where
+  pub clear : (p : ℕ) → get_or marks p true ≡ false → has_earlier rs what (compared_of what (at rs p)) p ≡ false
 
 -- each name or value that an earlier record has left its stamp
 pub record Stamped (rs : List Record) (what : Compared) (seen : List ℕ) (stamp p : ℕ) : Type 0 where

@@ -14,6 +14,7 @@ use marks::Compared;
 use rules::{Fault, Record, Target};
 
 // A fault at `place` that points at the earlier record that a search found, if it is no declaration.
+#[tactic(auto, unfolding(rules::specs::Faults::repeated, rules::specs::Places::found_inside))]
 fn repeated(code: u16, table: &[Record], place: usize, found: Option<usize>) -> Option<Fault>
     ensures { option_to_list result ≡ repeated code table.now place found }
 {
@@ -22,25 +23,26 @@ fn repeated(code: u16, table: &[Record], place: usize, found: Option<usize>) -> 
 }
 
 // A fault at `place` that points at the nearest earlier record of its declaration that is what `target` looks for.
+#[tactic(auto, unfolding(rules::specs::EnumDeclarations::again))]
 pub fn again(code: u16, table: &[Record], target: Target, place: usize) -> Option<Fault>
     ensures { option_to_list result ≡ again code table.now target place }
 {
     repeated(code, table, place, search::nearest(table, target, place))
 }
 
-// As `again`, for what is compared of the record at `place`, without a search where the mark is 0.
+// As `again`, for what is compared of the record at `place`, without a search where the mark is false.
 pub fn again_marked(
     code: u16,
     table: &[Record],
     what: Compared,
     place: usize,
-    marks: &[u8],
+    marks: &[bool],
 ) -> Option<Fault>
     requires { Marked table.now what marks.now }
     ensures { option_to_list result ≡ again code table.now (target_of what (compared_of what (at table.now place))) place }
 {
-    if marks::mark_at(marks, place) == 0 {
+    if !marks::mark_at(marks, place) {
         return None;
     }
-    again(code, table, what.target(table, place), place)
+    again(code, table, what.target(&table::at(table, place)), place)
 }

@@ -1,10 +1,9 @@
 // Marks of the records that might repeat an earlier one of their declaration, so that the others need no search.
-ghost use Rattle.std.specs.Prelude.{◌≡◌, ◌+◌, ◌<◌, ◌≤◌, length, get_or};
-ghost use Rattle.rules.specs.Table.{at};
-ghost use Rattle.repeats.specs.Marks.{selects, compared_of, target_of, Marked, Stamped};
+ghost use Rattle.std.specs.Prelude.{◌≡◌, ◌≤◌, length, get_or, true};
+ghost use Rattle.repeats.specs.Marks.{selects, compared_of, target_of, Marked};
 
-use rules::{Record, Target};
 use rules::limits::MOST_RECORDS;
+use rules::{Record, Target};
 use table::{DIVISOR, REMAINDERS};
 
 // What each record of a declaration has of its own.
@@ -39,88 +38,72 @@ impl Compared {
         }
     }
 
-    // What is compared of the record at `place`.
-    fn value_at(self, table: &[Record], place: usize) -> u64
-        ensures { result ≡ compared_of self (at table.now place) }
+    // What is compared of a record.
+    fn value(self, r: &Record) -> u64
+        ensures { result ≡ compared_of self r.now }
     {
         match self {
-            Compared::FieldNames | Compared::TagNames => u64::from(table::at(table, place).name),
-            Compared::TagValues => table::at(table, place).one,
-            Compared::Sizes | Compared::ElementSizes => u64::from(table::at(table, place).second),
+            Compared::FieldNames | Compared::TagNames => u64::from(r.name),
+            Compared::TagValues => r.one,
+            Compared::Sizes | Compared::ElementSizes => u64::from(r.second),
         }
     }
 
-    // What a search for an earlier record with the name or value of the one at `place` looks for.
-    pub(crate) fn target(self, table: &[Record], place: usize) -> Target
-        ensures { result ≡ target_of self (compared_of self (at table.now place)) }
+    // What a search for an earlier record with the name or value of this one looks for.
+    pub(crate) fn target(self, r: &Record) -> Target
+        ensures { result ≡ target_of self (compared_of self r.now) }
     {
         match self {
-            Compared::FieldNames => Target::NameOrDecl(table::at(table, place).name),
-            Compared::TagNames => Target::TagOrDecl(table::at(table, place).name),
-            Compared::TagValues => Target::ValueOrDecl(table::at(table, place).one),
-            Compared::Sizes => Target::SizeOrDecl(table::at(table, place).second),
-            Compared::ElementSizes => Target::ElementSizeOrDecl(table::at(table, place).second),
+            Compared::FieldNames => Target::NameOrDecl(r.name),
+            Compared::TagNames => Target::TagOrDecl(r.name),
+            Compared::TagValues => Target::ValueOrDecl(r.one),
+            Compared::Sizes => Target::SizeOrDecl(r.second),
+            Compared::ElementSizes => Target::ElementSizeOrDecl(r.second),
         }
     }
 }
 
-// The mark at any place: 1 past the end.
-pub fn mark_at(marks: &[u8], place: usize) -> u8
-    ensures { result ≡ get_or marks.now place 1 }
+// Whether the record at any place may repeat an earlier one: true past the end.
+pub fn mark_at(marks: &[bool], place: usize) -> bool
+    ensures { result ≡ get_or marks.now place true }
 {
-    marks.get(place).copied().unwrap_or(1)
+    marks.get(place).copied().unwrap_or(true)
 }
 
-// One place: a zero where no earlier record of the declaration left its stamp for the same remainder.
-fn mark_place(
-    table: &[Record],
-    what: Compared,
-    stamp: u16,
-    place: usize,
-    seen: &mut [u16],
-    marks: &mut [u8],
-) -> u16
-    requires { (place < 1600) × (1600 ≤ length marks.old) × (4093 ≤ length seen.old) × Marked table.now what marks.old × Stamped table.now what seen.old stamp place }
-    ensures { Marked table.now what marks.new × Stamped table.now what seen.new result (place + 1) }
-{
-    let k = table::kind(table, place);
-    if !what.selects(k) {
-        // A choice of two numbers compiles to no branch; one on where declarations begin would be mispredicted often.
-        return if kinds::is_decl(k) {
-            (place + 1) as u16
-        } else {
-            stamp
-        };
-    }
-    let h = (what.value_at(table, place) % WIDE_DIVISOR) as usize;
-    if seen[h] == stamp {
-        return stamp;
-    }
-    seen[h] = stamp;
-    marks[place] = 0;
-    stamp
-}
-
-// The first `count` places. Each declaration has its own stamp, so that `seen` is not cleared between them.
-fn mark_places(table: &[Record], what: Compared, count: usize, seen: &mut [u16], marks: &mut [u8])
-    requires { (count ≤ 1600) × (1600 ≤ length marks.old) × (4093 ≤ length seen.old) × Marked table.now what marks.old }
+// Each declaration has its own stamp, so that `seen` is not cleared between them. A mark becomes false where no earlier record of the
+// declaration left its stamp for the same remainder.
+fn mark_places(table: &[Record], what: Compared, seen: &mut [u16], marks: &mut [bool])
+    requires { (length table.now ≤ 1600) × (1600 ≤ length marks.old) × (4093 ≤ length seen.old) × Marked table.now what marks.old }
     ensures { Marked table.now what marks.new }
 {
     let mut stamp = 0;
-    for p in 0..count {
-        stamp = mark_place(table, what, stamp, p, seen, marks);
+    for (place, r) in table.iter().enumerate() {
+        let k = r.kind;
+        if !what.selects(k) {
+            // A choice of two numbers compiles to no branch; one on where declarations begin would be mispredicted often.
+            stamp = if kinds::is_decl(k) {
+                (place + 1) as u16
+            } else {
+                stamp
+            };
+            continue;
+        }
+        let h = (what.value(r) % WIDE_DIVISOR) as usize;
+        if seen[h] != stamp {
+            seen[h] = stamp;
+            marks[place] = false;
+        }
     }
 }
 
-// Zeros among the marks, which are ones at first. A table that is too long keeps its ones.
-pub fn mark(table: &[Record], what: Compared, marks: &mut [u8])
+// Marks that become false where no earlier record has the same name or value. A table that is too long keeps its marks.
+pub fn mark(table: &[Record], what: Compared, marks: &mut [bool])
     requires { (1600 ≤ length marks.old) × Marked table.now what marks.old }
     ensures { Marked table.now what marks.new }
 {
-    let n = table.len();
-    if MOST_RECORDS < n {
+    if MOST_RECORDS < table.len() {
         return;
     }
     let mut seen = [0u16; REMAINDERS];
-    mark_places(table, what, n, &mut seen, marks);
+    mark_places(table, what, &mut seen, marks);
 }

@@ -3,10 +3,6 @@ use mathlib.Core.Path.{sym, ◌∙◌}
 use Rattle.repeats.proofs.Laws.{not-again}
 use Rattle.repeats.proofs.again_marked.Goals as goal
 
-pub returns-then-mark_at-eq0 : goal.returns-then-mark_at-eq0
-returns-then-mark_at-eq0 c =
-    not-again _ _ c.args.what _ c.args.place (c.requires.clear c.args.place (sym c.mark_at.ensures ∙ c.if-mark_at-eq0.true))
-
-pub returns : goal.returns
-returns c =
-    rw (← c.target.ensures) c.again.ensures
+pub returns-then-not-mark_at : goal.returns-then-not-mark_at
+returns-then-not-mark_at c =
+    not-again _ _ c.args.what _ c.args.place (c.requires.clear c.args.place (sym c.mark_at.ensures ∙ c.if-not-mark_at.true))

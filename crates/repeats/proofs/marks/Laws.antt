@@ -89,21 +89,21 @@ set-kept l i j x h e = go (eqb j i) refl
     go true k = rw (eqb-true j i k) (get_or-set_same l i x 0 h)
     go false k = get_or-set_other l i j x 0 (eqb-false j i k) ∙ e
 
--- a zero more
-pub marked-one : (rs : List Record) (what : Compared) (marks : List ℕ) (p : ℕ) → Marked rs what marks → has_earlier rs what (compared_of what (at rs p)) p ≡ false → Marked rs what (set marks p 0)
+-- a mark less
+pub marked-one : (rs : List Record) (what : Compared) (marks : List Bool) (p : ℕ) → Marked rs what marks → has_earlier rs what (compared_of what (at rs p)) p ≡ false → Marked rs what (set marks p false)
 marked-one rs what marks p m h = record { clear = λ q e. go q e (eqb q p) refl }
   where
-    go : (q : ℕ) → get_or (set marks p 0) q 1 ≡ 0 → (b : Bool) → eqb q p ≡ b → has_earlier rs what (compared_of what (at rs q)) q ≡ false
+    go : (q : ℕ) → get_or (set marks p false) q true ≡ false → (b : Bool) → eqb q p ≡ b → has_earlier rs what (compared_of what (at rs q)) q ≡ false
     go q e true k = rw (eqb-true q p k) h
-    go q e false k = m.clear q (sym (get_or-set_other marks p q 0 1 (eqb-false q p k)) ∙ e)
+    go q e false k = m.clear q (sym (get_or-set_other marks p q false true (eqb-false q p k)) ∙ e)
 
--- ones say nothing
-one-everywhere : (n p : ℕ) → ◌≡◌ {A = ℕ} (get_or (replicate n 1) p 1) 1
-one-everywhere n p = go (leb (suc p) n) refl
+-- all marks say nothing
+true-everywhere : (n p : ℕ) → get_or (replicate n true) p true ≡ true
+true-everywhere n p = go (leb (suc p) n) refl
   where
-    go : (b : Bool) → leb (suc p) n ≡ b → ◌≡◌ {A = ℕ} (get_or (replicate n 1) p 1) 1
-    go true h = get_or-replicate n p 1 1 (leb-true (suc p) n h)
-    go false h = get_or-eq_default (replicate n 1) 1 (rw length-replicate (let z : n < suc p = leb-false (suc p) n h in omega arith))
+    go : (b : Bool) → leb (suc p) n ≡ b → get_or (replicate n true) p true ≡ true
+    go true h = get_or-replicate n p true true (leb-true (suc p) n h)
+    go false h = get_or-eq_default (replicate n true) true (rw length-replicate (let z : n < suc p = leb-false (suc p) n h in omega arith))
 
-pub marked-ones : (rs : List Record) (what : Compared) (n : ℕ) → Marked rs what (replicate n 1)
-marked-ones rs what n = record { clear = λ p e. absurd (omega (arith, one-everywhere n p, e)) }
+pub marked-all : (rs : List Record) (what : Compared) (n : ℕ) → Marked rs what (replicate n true)
+marked-all rs what n = record { clear = λ p e. false-true (sym e ∙ true-everywhere n p) }

@@ -1,6 +1,6 @@
--- `repeats::marks::mark_places` meets its contract: the marks and the stamps are those of the places below p. Assumes nothing.
+-- `repeats::marks::mark_places` meets its contract: the marks and the stamps are those of the places below place. Assumes nothing.
 use Rattle.repeats.specs.Marks.{Marked, Stamped}
 use Rattle.repeats.proofs.marks.mark_places.Given as goal
 
-abbrev pub invariant-loop-p : goal.invariant-loop-p
-invariant-loop-p l = Marked l.table l.what l.marks × Stamped l.table l.what l.seen l.stamp l.p
+abbrev pub invariant-loop-place : goal.invariant-loop-place
+invariant-loop-place l = Marked l.table l.what l.marks × Stamped l.table l.what l.seen l.stamp l.place
