@@ -9,35 +9,32 @@ ghost use Rattle.accepted_table.specs.Wrote.{Wrote};
 
 use inline_groups::InlineError;
 use rules::{Record, Reply};
-use rules::limits::{RECORD_LENGTH, TABLE_LENGTH};
+use rules::limits::MOST_RECORDS;
 use table::FEW_RECORDS;
 
-// The bytes of 128 records, which most small tables fit inlined.
-const SMALL_LENGTH: usize = RECORD_LENGTH * 2 * FEW_RECORDS;
+// As many records as most small tables fit inlined.
+const SMALL_ROOM: usize = 2 * FEW_RECORDS;
 
 // Groups inlined into a buffer, then flags made: the rows from Swollen on, for a table in listed order. None where the buffer is too short
 // for the inlined table.
-fn write_table(listed: &[Record], expanded: &mut [u8], table: &mut [u8]) -> Option<Reply>
+fn write_table(listed: &[Record], expanded: &mut [Record], table: &mut [u8]) -> Option<Reply>
     requires { (length listed.now ≤ 1600) × GroupsFirst listed.now }
     ensures { Wrote (length expanded.old) listed.now table.old table.new result }
 {
     match inline_groups::inline_groups(listed, expanded) {
-        Ok(n) => {
-            let end = RECORD_LENGTH * n;
-            Some(desugar_flags::desugar_flags(&expanded[..end], table))
-        }
+        Ok(n) => Some(desugar_flags::desugar_flags(&expanded[..n], table)),
         Err(InlineError::Swollen) => Some(Reply::Swollen),
         Err(InlineError::BufferShort) => None,
         Err(InlineError::Unfit(key)) => Some(Reply::Unfit(key)),
     }
 }
 
-// With a buffer of `N` bytes.
+// With room for `N` records.
 fn write_in<const N: usize>(listed: &[Record], table: &mut [u8]) -> Option<Reply>
-    requires { (length listed.now ≤ 1600) × GroupsFirst listed.now × (N ≤ 64000) }
+    requires { (length listed.now ≤ 1600) × GroupsFirst listed.now × (N ≤ 1600) }
     ensures { Wrote N listed.now table.old table.new result }
 {
-    let mut expanded = [0u8; N];
+    let mut expanded = [Record::default(); N];
     write_table(listed, &mut expanded, table)
 }
 
@@ -48,9 +45,9 @@ pub fn write_listed(listed: &[Record], table: &mut [u8]) -> Reply
     ensures { (f : List ℕ) → answered result table.new f ≡ by_size (inlined listed.now) table.old f }
 {
     if listed.len() <= FEW_RECORDS {
-        if let Some(reply) = write_in::<SMALL_LENGTH>(listed, table) {
+        if let Some(reply) = write_in::<SMALL_ROOM>(listed, table) {
             return reply;
         }
     }
-    write_in::<TABLE_LENGTH>(listed, table).unwrap_or(Reply::Swollen)
+    write_in::<MOST_RECORDS>(listed, table).unwrap_or(Reply::Swollen)
 }

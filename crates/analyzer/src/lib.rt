@@ -1,25 +1,24 @@
 // The analyzer: the rows of the table of replies, first match from the top.
 #![tactic(auto)]
 
-ghost use Rattle.std.specs.Prelude.{◌≡◌, ◌*◌, ◌≤◌, length};
+ghost use Rattle.std.specs.Prelude.{◌≡◌, ◌≤◌, length};
 ghost use Rattle.rules.specs.Table.{decode};
 ghost use Rattle.rules.specs.Replies.{answered, by_passes, answer};
 
 use passes::check_passes;
-use rules::Reply;
-use rules::limits::{RECORD_LENGTH, TABLE_LENGTH};
+use rules::limits::MOST_RECORDS;
+use rules::{Record, Reply};
 use table::FEW_RECORDS;
 
-// The bytes of a table of few records.
-const FEW_LENGTH: usize = RECORD_LENGTH * FEW_RECORDS;
-
-// With a listed table of its own, of N bytes, as are those for the inlined table: the caller's buffer changes only on acceptance.
+// With room of its own for N records of the table and of the listed table: the caller's buffer changes only on acceptance.
 fn check_in<const N: usize>(input: &[u8], table: &mut [u8], faults: &mut [u8]) -> Reply
-    requires { (length (decode input.now) ≤ 1600) × (40 * length (decode input.now) ≤ N) × (N ≤ 64000) }
+    requires { (length (decode input.now) ≤ 1600) × (length (decode input.now) ≤ N) × (N ≤ 1600) }
     ensures { answered result table.new faults.new ≡ by_passes (decode input.now) table.old faults.old }
 {
-    let mut listed = [0u8; N];
-    check_passes(input, &mut listed, table, faults)
+    let mut records = [Record::default(); N];
+    let mut listed = [Record::default(); N];
+    let n = records::read(input, &mut records);
+    check_passes(&records[..n], &mut listed, table, faults)
 }
 
 // The passes with buffers as large as the table needs.
@@ -27,10 +26,10 @@ fn check_table(input: &[u8], table: &mut [u8], faults: &mut [u8]) -> Reply
     requires { length (decode input.now) ≤ 1600 }
     ensures { answered result table.new faults.new ≡ by_passes (decode input.now) table.old faults.old }
 {
-    if FEW_RECORDS < table::count(input) {
-        return check_in::<TABLE_LENGTH>(input, table, faults);
+    if FEW_RECORDS < records::count(input) {
+        return check_in::<MOST_RECORDS>(input, table, faults);
     }
-    check_in::<FEW_LENGTH>(input, table, faults)
+    check_in::<FEW_RECORDS>(input, table, faults)
 }
 
 // Analyzes a table: the reply, the accepted table at the start of one buffer or the first faults in the other.

@@ -62,7 +62,7 @@ fn sound_at(table: &[u8], place: usize, surroundings: Around) -> bool
     ensures { result ≡ sound_at table.now place }
 {
     let r = records::record(table, place);
-    let i = table::base(table, place);
+    let i = records::base(table, place);
     if !spare_zero(table, i) {
         return false;
     }
@@ -93,7 +93,7 @@ pub fn check_layout(table: &[u8]) -> Result<(), LayoutError>
     if table.len() % RECORD_LENGTH != 0 {
         return Err(LayoutError::Uneven);
     }
-    let n = table::count(table);
+    let n = records::count(table);
     if MOST_RECORDS < n {
         return Err(LayoutError::TooLong);
     }
@@ -102,7 +102,7 @@ pub fn check_layout(table: &[u8]) -> Result<(), LayoutError>
         if !sound_at(table, p, a) {
             return Err(LayoutError::Malformed(p));
         }
-        a = step(a, table::kind(table, p));
+        a = step(a, records::record(table, p).kind);
     }
     Ok(())
 }

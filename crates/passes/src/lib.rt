@@ -1,14 +1,13 @@
 // The nine passes in their order, then the table: the rows from Faulty on.
 #![tactic(auto)]
 
-ghost use Rattle.std.specs.Prelude.{◌≡◌, [], ◌*◌, ◌≤◌, length};
+ghost use Rattle.std.specs.Prelude.{◌≡◌, [], ◌≤◌, length};
 ghost use Rattle.rules.specs.Scopes.{pass1};
 ghost use Rattle.rules.specs.Replies.{answered, by_passes};
 ghost use Rattle.group_sizes.specs.GroupsFirst.{GroupsFirst};
 ghost use Rattle.passes.specs.Listed.{by_listed};
 
 use rules::{Record, Reply};
-use rules::limits::RECORD_LENGTH;
 
 // Passes 3 to 9, then the table.
 fn check_listed(listed: &[Record], table: &mut [u8], faults: &mut [u8]) -> Reply
@@ -22,22 +21,19 @@ fn check_listed(listed: &[Record], table: &mut [u8], faults: &mut [u8]) -> Reply
 }
 
 // Pass 2, on a table without faults in pass 1, then what follows on the table that it lists.
-fn check_order(input: &[Record], listed: &mut [u8], table: &mut [u8], faults: &mut [u8]) -> Reply
-    requires { (length input.now ≤ 1600) × (40 * length input.now ≤ length listed.old) × (pass1 input.now ≡ []) }
+fn check_order(input: &[Record], listed: &mut [Record], table: &mut [u8], faults: &mut [u8]) -> Reply
+    requires { (length input.now ≤ 1600) × (length input.now ≤ length listed.old) × (pass1 input.now ≡ []) }
     ensures { answered result table.new faults.new ≡ by_passes input.now table.old faults.old }
 {
     match decl_order::check_decl_identifiers(input, faults, listed) {
         Err(tally) => Reply::Faulty(2, tally.total),
-        Ok(records) => {
-            let end = RECORD_LENGTH * records;
-            check_listed(&listed[..end], table, faults)
-        }
+        Ok(records) => check_listed(&listed[..records], table, faults),
     }
 }
 
 // Passes 1 and 2, then what follows.
-pub fn check_passes(input: &[Record], listed: &mut [u8], table: &mut [u8], faults: &mut [u8]) -> Reply
-    requires { (length input.now ≤ 1600) × (40 * length input.now ≤ length listed.old) }
+pub fn check_passes(input: &[Record], listed: &mut [Record], table: &mut [u8], faults: &mut [u8]) -> Reply
+    requires { (length input.now ≤ 1600) × (length input.now ≤ length listed.old) }
     ensures { answered result table.new faults.new ≡ by_passes input.now table.old faults.old }
 {
     let tally = pass_checks::scope_new(input, faults);

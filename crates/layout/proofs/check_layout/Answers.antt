@@ -50,7 +50,7 @@ returns-then-not-sound_at c =
 
 pub loop-p-preserved : goal.loop-p-preserved
 loop-p-preserved c =
-    (up-miss _ _ _ c.loop-p.p c.loop-p.invariant.0 c.loop-p-test.true (ap not (sym c.sound_at.ensures ∙ c.if-not-sound_at.false)), c.step-a.ensures ∙ rw (c.loop-p.invariant.1, c.kind.ensures) (around-next _ c.loop-p.p))
+    (up-miss _ _ _ c.loop-p.p c.loop-p.invariant.0 c.loop-p-test.true (ap not (sym c.sound_at.ensures ∙ c.if-not-sound_at.false)), c.step-a.ensures ∙ rw (c.loop-p.invariant.1, c.record.ensures) (around-next _ c.loop-p.p))
 
 pub returns : goal.returns
 unfolding layout
