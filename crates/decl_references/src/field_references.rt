@@ -1,10 +1,9 @@
 // What a field refers to by a name: nothing, a fault, or a declaration to visit.
 ghost use Rattle.std.specs.Prelude.{◌≡◌};
-ghost use Rattle.declarations.specs.Starts.{Starts};
 ghost use Rattle.rules.specs.DeclIdentifiers.{group_reference, type_reference, field_reference};
 
 use crate::named_reference;
-use declarations::decl_named;
+use declarations::Names;
 use rules::{Record, Reference, codes};
 
 // The Group field at `place`.
@@ -40,24 +39,18 @@ fn type_reference(followed: bool, table: &[Record], place: usize, found: Option<
 }
 
 // The record at `place`, as a field.
-pub fn field_reference(table: &[Record], starts: &[u16], place: usize) -> Reference
-    requires { Starts table.now starts.now }
-    ensures { result ≡ field_reference table.now place }
+pub fn field_reference(names: &Names, place: usize) -> Reference
+    ensures { result ≡ field_reference names.now.table.now place }
 {
-    let r = table::at(table, place);
+    let r = table::at(names.table, place);
     if r.kind == kinds::GROUP_FIELD {
-        return group_reference(table, place, decl_named(table, starts, r.second));
+        return group_reference(names.table, place, names.decl_named(r.second));
     }
     if r.kind == kinds::TYPEDEF {
-        return type_reference(true, table, place, decl_named(table, starts, r.second));
+        return type_reference(true, names.table, place, names.decl_named(r.second));
     }
     if (r.kind == kinds::ARRAY) & !(r.second == 0) {
-        return type_reference(
-            2 <= r.marks,
-            table,
-            place,
-            decl_named(table, starts, r.second),
-        );
+        return type_reference(2 <= r.marks, names.table, place, names.decl_named(r.second));
     }
     Reference::Nowhere
 }

@@ -4,11 +4,10 @@
 pub mod field_references;
 
 ghost use Rattle.std.specs.Prelude.{◌≡◌, ℕ, Bool, Option};
-ghost use Rattle.declarations.specs.Starts.{Starts};
 ghost use Rattle.decl_references.specs.Named.{named_reference};
 ghost use Rattle.rules.specs.DeclIdentifiers.{parent_reference, test_reference, own_reference, root_reference};
 
-use declarations::decl_named;
+use declarations::Names;
 use rules::{Record, Reference, codes};
 
 // What the name at `place` refers to, by the declaration found: `missing` is the code where there is none, `invalid` where it
@@ -66,28 +65,26 @@ fn test_reference(table: &[Record], place: usize, found: Option<usize>) -> Refer
 }
 
 // The declaration at `decl`, by its parent's name.
-pub fn own_reference(table: &[Record], starts: &[u16], decl: usize) -> Reference
-    requires { Starts table.now starts.now }
-    ensures { result ≡ own_reference table.now decl }
+pub fn own_reference(names: &Names, decl: usize) -> Reference
+    ensures { result ≡ own_reference names.now.table.now decl }
 {
-    let r = table::at(table, decl);
+    let r = table::at(names.table, decl);
     if kinds::is_packet_or_struct(r.kind) & !(r.second == 0) {
-        return parent_reference(table, decl, decl_named(table, starts, r.second));
+        return parent_reference(names.table, decl, names.decl_named(r.second));
     }
     Reference::Nowhere
 }
 
 // The record at `place`, in table order: a declaration is visited, a test is checked.
-pub fn root_reference(table: &[Record], starts: &[u16], place: usize) -> Reference
-    requires { Starts table.now starts.now }
-    ensures { result ≡ root_reference table.now place }
+pub fn root_reference(names: &Names, place: usize) -> Reference
+    ensures { result ≡ root_reference names.now.table.now place }
 {
-    let r = table::at(table, place);
+    let r = table::at(names.table, place);
     if kinds::is_named_decl(r.kind) {
         return Reference::Follow(place);
     }
     if r.kind == kinds::TEST {
-        return test_reference(table, place, decl_named(table, starts, r.second));
+        return test_reference(names.table, place, names.decl_named(r.second));
     }
     Reference::Nowhere
 }
