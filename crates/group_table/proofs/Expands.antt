@@ -1,6 +1,6 @@
 -- Inlining over plain lists: what the recursion needs at each call, and shows at each turn. Assumes nothing.
 use Rattle.std.proofs.Common.{Some}
-use Prim.Native.Nat.{ℕ, zero, suc, ◌+◌, ◌-◌, ◌*◌, ◌<◌, ◌≤◌, min}
+use Prim.Native.Nat.{ℕ, zero, suc, ◌+◌, ◌-◌, ◌<◌, ◌≤◌, min}
 use mathlib.Core.Path.{◌≡◌, refl, sym, ap, ◌∙◌}
 use mathlib.Core.List.{List, [], ◌∷◌, ◌++◌}
 use mathlib.Core.Bool.{Bool, true, false, ◌&&◌, ◌||◌}
@@ -162,7 +162,7 @@ module _ (rs : List Record) (targets sizes : List ℕ) (t : GroupsFirst rs) (y :
 
 -- ---- the loop over the records of the declaration at d, at place p: what is written and what is left make the whole
 
-pub record Walking (rs : List Record) (targets sizes : List ℕ) (d : ℕ) (env₀ : List ℕ) (out₀ : List ℕ) (a : ExpandProgress) (env out : List ℕ) (s : ExpandProgress) (after : Bool) (p : ℕ) : Type 0 where
+pub record Walking (rs : List Record) (targets sizes : List ℕ) (d : ℕ) (env₀ : List ℕ) (out₀ : List Record) (a : ExpandProgress) (env : List ℕ) (out : List Record) (s : ExpandProgress) (after : Bool) (p : ℕ) : Type 0 where
   pub past : d < p
   pub here : nearest (holds_at rs Decl) p ≡ Some d
   pub flag : after ≡ after_group rs p
@@ -171,7 +171,7 @@ pub record Walking (rs : List Record) (targets sizes : List ℕ) (d : ℕ) (env�
   pub out-long : length out ≡ length out₀
   pub counted : s.count + size_from targets sizes rs p ≡ a.count + get_or sizes d 0
 
-module _ {rs : List Record} {targets sizes : List ℕ} {d : ℕ} {env₀ : List ℕ} {out₀ : List ℕ} {a : ExpandProgress} (y : ExpandReady rs targets sizes d env₀ out₀ a) where
+module _ {rs : List Record} {targets sizes : List ℕ} {d : ℕ} {env₀ : List ℕ} {out₀ : List Record} {a : ExpandProgress} (y : ExpandReady rs targets sizes d env₀ out₀ a) where
   pub walk_start : Walking rs targets sizes d env₀ out₀ a env₀ out₀ a false (d + 1)
   walk_start =
       let i = y.decl.1 in
@@ -188,7 +188,7 @@ module _ {rs : List Record} {targets sizes : List ℕ} {d : ℕ} {env₀ : List 
         counted = omega arith;
       }
 
-  module _ {env out : List ℕ} {s : ExpandProgress} {after : Bool} {p : ℕ} (w : Walking rs targets sizes d env₀ out₀ a env out s after p) where
+  module _ {env : List ℕ} {out : List Record} {s : ExpandProgress} {after : Bool} {p : ℕ} (w : Walking rs targets sizes d env₀ out₀ a env out s after p) where
     -- nothing is left
     pub walk_end : Ends rs p → Expanded rs sizes d env₀ out₀ a env out s
     unfolding expand added_all
@@ -203,7 +203,7 @@ module _ {rs : List Record} {targets sizes : List ℕ} {d : ℕ} {env₀ : List 
 
     module _ (l : p < length rs) (o : is_decl (at rs p).kind ≡ false) {b : Bool} (be : b ≡ (eqb (at rs p).kind 34 || (is_constraint_or_condition (at rs p).kind && after))) where
       -- what the record at p becomes is written
-      walk-next : {env' out' : List ℕ} {s' : ExpandProgress}
+      walk-next : {env' : List ℕ} {out' : List Record} {s' : ExpandProgress}
           → ((k : ℕ) → d ≤ k → output s' out' ≡ added_all (output s out) (inlined_field (expand rs k) rs (env₀) p))
           → s'.count ≡ s.count + size_at targets sizes rs p → env' ≡ env → length out' ≡ length out
           → Walking rs targets sizes d env₀ out₀ a env' out' s' b (p + 1)
@@ -288,7 +288,7 @@ module _ {rs : List Record} {targets sizes : List ℕ} {d : ℕ} {env₀ : List 
             },
           )
 
-          pub turn-group : {env₂ env₃ out₂ : List ℕ} {s₂ : ExpandProgress} → Expanded rs sizes (get_or targets p 0) env₁ out s env₂ out₂ s₂ → env₃ ≡ take (length env) env₂ → length out₂ ≡ length out
+          pub turn-group : {env₂ env₃ : List ℕ} {out₂ : List Record} {s₂ : ExpandProgress} → Expanded rs sizes (get_or targets p 0) env₁ out s env₂ out₂ s₂ → env₃ ≡ take (length env) env₂ → length out₂ ≡ length out
               → Walking rs targets sizes d env₀ out₀ a env₃ out₂ s₂ b (p + 1)
           unfolding g
           turn-group {env₂} {env₃} {out₂} {s₂} x e f =
@@ -315,11 +315,11 @@ module _ {rs : List Record} {targets sizes : List ℕ} {d : ℕ} {env₀ : List 
           unfolding size_at
           size-one = let h : (is_constraint_or_condition (at rs p).kind && after_group rs p) ≡ false = rw w.flag at g in rw (size_at, ne_eqb _ _ k34, h)
 
-          pub call-add : 40 * (s.count + 1) ≤ length out
+          pub call-add : s.count < length out
           call-add = let q = size-one in let h = size-left in let e = w.out-long in let v = y.wide in omega arith
 
           -- what is written
-          pub turn_one : {out₂ : List ℕ} {s₂ : ExpandProgress} → output s₂ out₂ ≡ added (output s out) (inlined_record rs env (at rs p)) → length out₂ ≡ length out
+          pub turn_one : {out₂ : List Record} {s₂ : ExpandProgress} → output s₂ out₂ ≡ added (output s out) (inlined_record rs env (at rs p)) → length out₂ ≡ length out
               → Walking rs targets sizes d env₀ out₀ a env out₂ s₂ b (p + 1)
           unfolding inlined_field added_all added
           turn_one {out₂} {s₂} x e =

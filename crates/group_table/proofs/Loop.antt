@@ -1,5 +1,5 @@
 -- The loop that writes the inlined table. Assumes nothing.
-use Prim.Native.Nat.{ℕ, ◌+◌, ◌*◌, ◌<◌, ◌≤◌}
+use Prim.Native.Nat.{ℕ, ◌+◌, ◌<◌, ◌≤◌}
 use mathlib.Core.Path.{◌≡◌, refl, sym, ap, ◌∙◌}
 use mathlib.Core.List.{List, [], ◌∷◌, append-nil}
 use mathlib.Core.Bool.{true, false}
@@ -20,18 +20,18 @@ use Rattle.group_table.proofs.Totals.{total-rises, kept-decl}
 pub added-kept : (o : Output) {m : Output} {r r' : Record} → r ≡ r' → m ≡ added o (kept r) → m ≡ added o (kept r')
 added-kept o e h = rw e at h
 
-pub record Writing (rs : List Record) (sizes out₀ env out : List ℕ) (s : ExpandProgress) (d : ℕ) : Type 0 where
+pub record Writing (rs : List Record) (sizes : List ℕ) (out₀ : List Record) (env : List ℕ) (out : List Record) (s : ExpandProgress) (d : ℕ) : Type 0 where
   pub made : output s out ≡ added_all (output empty out₀) (each (inlined_at rs) d)
   pub counted : s.count ≡ total_size sizes rs d
   pub bare : env ≡ []
   pub out-long : length out ≡ length out₀
 
-pub write-start : (rs : List Record) (sizes out : List ℕ) → Writing rs sizes out [] out empty 0
+pub write-start : (rs : List Record) (sizes : List ℕ) (out : List Record) → Writing rs sizes out [] out empty 0
 unfolding added_all each total_size
 write-start rs sizes out = record { made = refl; counted = refl; bare = refl; out-long = refl }
 
-module _ {rs : List Record} {targets sizes out₀ : List ℕ} (y : RoomForInlined rs targets sizes out₀) (few : total_size sizes rs (length rs) ≤ 1600) where
-  module _ {env out : List ℕ} {s : ExpandProgress} {d : ℕ} (w : Writing rs sizes out₀ env out s d) (l : d < length rs) where
+module _ {rs : List Record} {targets sizes : List ℕ} {out₀ : List Record} (y : RoomForInlined rs targets sizes out₀) (few : total_size sizes rs (length rs) ≤ 1600) where
+  module _ {env : List ℕ} {out : List Record} {s : ExpandProgress} {d : ℕ} (w : Writing rs sizes out₀ env out s d) (l : d < length rs) where
     pub write-other : is_kept (at rs d).kind ≡ false → Writing rs sizes out₀ env out s (d + 1)
     unfolding inlined_at
     write-other i =
@@ -46,10 +46,10 @@ module _ {rs : List Record} {targets sizes out₀ : List ℕ} (y : RoomForInline
       left : s.count + (1 + get_or sizes d 0) ≤ total_size sizes rs (length rs)
       left = let a = total-next sizes rs d i in let b = total-rises sizes rs (d + 1) (length rs) (omega arith) in let c = w.counted in omega arith
 
-      pub call-first : 40 * (s.count + 1) ≤ length out
+      pub call-first : s.count < length out
       call-first = let a = left in let b = w.out-long in let c = y.wide in omega arith
 
-      module _ {out₁ : List ℕ} {s₁ : ExpandProgress} (p : output s₁ out₁ ≡ added (output s out) (kept (at rs d))) (o : length out₁ ≡ length out) where
+      module _ {out₁ : List Record} {s₁ : ExpandProgress} (p : output s₁ out₁ ≡ added (output s out) (kept (at rs d))) (o : length out₁ ≡ length out) where
         one_more : s₁.count ≡ s.count + 1
         unfolding added
         one_more = ap (λ (u : Output). u.progress.count) p
@@ -64,7 +64,7 @@ module _ {rs : List Record} {targets sizes out₀ : List ℕ} (y : RoomForInline
               wide = (let a = left in let b = one_more in let c = w.out-long in let e = y.wide in omega arith);
             }
 
-        pub write-next : {env₂ out₂ : List ℕ} {s₂ : ExpandProgress} → Expanded rs sizes d env out₁ s₁ env₂ out₂ s₂ → length out₂ ≡ length out₁
+        pub write-next : {env₂ : List ℕ} {out₂ : List Record} {s₂ : ExpandProgress} → Expanded rs sizes d env out₁ s₁ env₂ out₂ s₂ → length out₂ ≡ length out₁
             → Writing rs sizes out₀ env₂ out₂ s₂ (d + 1)
         unfolding inlined_at added_all
         write-next x f =
@@ -81,6 +81,6 @@ module _ {rs : List Record} {targets sizes out₀ : List ℕ} (y : RoomForInline
               out-long = f ∙ o ∙ w.out-long;
             }
 
-  pub write-end : {env out : List ℕ} {s : ExpandProgress} {d : ℕ} → Writing rs sizes out₀ env out s d → d ≤ length rs → length rs ≤ d → output s out ≡ added_all (output empty out₀) (inlined rs)
+  pub write-end : {env : List ℕ} {out : List Record} {s : ExpandProgress} {d : ℕ} → Writing rs sizes out₀ env out s d → d ≤ length rs → length rs ≤ d → output s out ≡ added_all (output empty out₀) (inlined rs)
   unfolding inlined
   write-end {d = d} w h g = let e : d ≡ length rs = omega arith in w.made ∙ rw e

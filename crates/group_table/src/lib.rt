@@ -1,7 +1,7 @@
 // The table with each group field replaced by the fields of its group, fixed as its constraints say, written record by record.
 #![tactic(auto)]
 
-ghost use Rattle.std.specs.Prelude.{◌≡◌, ◌+◌, ◌*◌, ◌≤◌, length};
+ghost use Rattle.std.specs.Prelude.{◌≡◌, ◌+◌, ◌<◌, ◌≤◌, length};
 ghost use Rattle.rules.specs.InlineGroups.{inlined};
 ghost use Rattle.group_sizes.specs.Sizes.{total_size};
 ghost use Rattle.group_table.specs.Outputs.{unfit_after, output, added, added_all, empty, RoomForInlined, ExpandReady, Expanded};
@@ -9,7 +9,6 @@ ghost use Rattle.group_table.specs.Outputs.{unfit_after, output, added, added_al
 use group_constraints::inlined_record;
 use group_constraints::stack::Stack;
 use kinds::{is_constraint_or_condition, is_kept};
-use records::record;
 use rules::{FieldKey, Inlined, Record};
 
 // How many records are written, and the key of the first that is not fit.
@@ -27,11 +26,11 @@ fn unfit_after(unfit: Option<FieldKey>, next: Inlined) -> Option<FieldKey>
 }
 
 // Writes one record more.
-fn add(out: &mut [u8], progress: ExpandProgress, next: Inlined) -> ExpandProgress
-    requires { 40 * (progress.count + 1) ≤ length out.old }
+fn add(out: &mut [Record], progress: ExpandProgress, next: Inlined) -> ExpandProgress
+    requires { progress.count < length out.old }
     ensures { output result out.new ≡ added (output progress out.old) next }
 {
-    store::put(out, progress.count, next.made);
+    out[progress.count] = next.made;
     ExpandProgress {
         count: progress.count + 1,
         unfit: unfit_after(progress.unfit, next),
@@ -46,7 +45,7 @@ fn expand(
     sizes: &[u16],
     decl: usize,
     env: &mut Stack,
-    out: &mut [u8],
+    out: &mut [Record],
     progress: ExpandProgress,
 ) -> ExpandProgress
     requires { ExpandReady table.now targets.now sizes.now decl env.old out.old progress }
@@ -71,18 +70,20 @@ fn expand(
                 env.truncate(top);
             }
         } else if !bound {
-            s = add(
-                out,
-                s,
-                inlined_record(table, env.as_slice(), record(table, p)),
-            );
+            let r = table::at(table, p);
+            s = add(out, s, inlined_record(table, env.as_slice(), r));
         }
     }
     s
 }
 
 // Writes the inlined table.
-pub fn write_all(table: &[Record], targets: &[u16], sizes: &[u16], out: &mut [u8]) -> ExpandProgress
+pub fn write_all(
+    table: &[Record],
+    targets: &[u16],
+    sizes: &[u16],
+    out: &mut [Record],
+) -> ExpandProgress
     requires room_for_inlined { RoomForInlined table.now targets.now sizes.now out.old }
     requires table_bound { total_size sizes.now table.now (length table.now) ≤ 1600 }
     ensures { output result out.new ≡ added_all (output empty out.old) (inlined table.now) }
@@ -93,7 +94,7 @@ pub fn write_all(table: &[Record], targets: &[u16], sizes: &[u16], out: &mut [u8
         unfit: None,
     };
     for d in 0..table.len() {
-        let r = record(table, d);
+        let r = table::at(table, d);
         if is_kept(r.kind) {
             let first = add(out, s, Inlined { made: r, fit: true });
             s = expand(table, targets, sizes, d, &mut env, out, first);

@@ -1,3 +1,2 @@
 pub mod Wholes
-pub mod Codec
-pub mod ReadBack
+pub mod Replies

@@ -1,21 +1,20 @@
--- The inlined table as bytes, and the answer. Assumes nothing.
+-- The records that are written, and the answer. Assumes nothing.
 use Rattle.std.proofs.Common.{Option, None, Some, Result, Err}
-use Prim.Native.Nat.{ℕ, suc, ◌+◌, ◌*◌, ◌<◌, ◌≤◌}
+use Prim.Native.Nat.{ℕ, suc, ◌+◌, ◌<◌, ◌≤◌}
 use mathlib.Core.Path.{◌≡◌, refl, sym, ap, ◌∙◌}
-use mathlib.Core.List.{List, [], ◌∷◌, ◌++◌, map, append-nil}
+use mathlib.Core.List.{List, [], ◌∷◌, ◌++◌, map, append-nil, append_assoc}
 use mathlib.Core.Bool.{Bool, true, false}
 use native.Mathlib.Omega.{arith}
 use native.Mathlib.Nat.{zero-add, add-zero}
 use borrow.Author.Tests.{lt-ltb, le-ltb}
-use lib.ListN.{length, get_or, take, drop, take-append-drop}
-use Rattle.rules.specs.Bytes.{written}
-use Rattle.rules.specs.Table.{blank, record_bytes, encode, field_key}
+use lib.ListN.{length, get_or, take, drop, set, length-set, take-append-drop}
+use lib.Seq.{take-suc-set, drop-set-lt}
+use Rattle.rules.specs.Table.{blank, field_key}
 use Rattle.rules.specs.Places.{first}
 use Rattle.rules.specs.InlineGroups.{kept, inlined, record_of, unfit_at, first_unfit}
 use Rattle.rules.specs.declared.Record.{Record}
 use Rattle.rules.specs.declared.Inlined.{Inlined}
 use Rattle.rules.specs.declared.FieldKey.{FieldKey}
-use Rattle.store.proofs.Laws.{length-record, length-written, written-more}
 use Rattle.group_sizes.specs.GroupsFirst.{GroupsFirst}
 use Rattle.group_table.specs.declared.ExpandProgress.{ExpandProgress}
 use Rattle.inline_groups.specs.declared.InlineError.{InlineError}
@@ -23,10 +22,10 @@ use Rattle.inline_groups.specs.declared.InlineError.TheVariants.{Swollen, Buffer
 use Rattle.group_sizes.specs.Targets.{TargetsKnown}
 use Rattle.group_sizes.specs.Sizes.{total_size, Sized}
 use Rattle.group_table.specs.Outputs.{Output, output, unfit_after, added, added_all, empty}
-use Rattle.inline_groups.specs.Inlinings.{inlined_or_unfit, by_fit, inlining, inlining_bytes}
+use Rattle.inline_groups.specs.Inlinings.{inlined_or_unfit, by_fit, inlining, inlining_records}
 use Rattle.group_table.proofs.Totals.{inlined-size}
 
--- ---- bytes
+-- ---- the records that are written
 
 pub length-records : (xs : List Inlined) → length (map record_of xs) ≡ length xs
 length-records [] = refl
@@ -37,19 +36,17 @@ unfoldable unfit_of : Option FieldKey → List Inlined → Option FieldKey
 unfit_of f [] = f
 unfit_of f (x ∷ xs) = unfit_of (unfit_after f x) xs
 
-added-bytes : (xs : List Inlined) (c : ℕ) (f : Option FieldKey) (b : List ℕ) → 40 * (c + length xs) ≤ length b
-    → added_all (output (record { count = c; unfit = f }) b) xs ≡ output (record { count = c + length xs; unfit = unfit_of f xs }) (written b (40 * c) (encode (map record_of xs)))
-unfolding added_all added unfit_of encode
-added-bytes [] c f b h =
-    let e : take (40 * c) b ++ [] ++ drop (40 * c + 0) b ≡ b = rw (append-nil (take (40 * c) b), add-zero (40 * c)) (take-append-drop (40 * c) b) in
-    rw (e, add-zero c)
-added-bytes (x ∷ xs) c f b h =
-    let r = length-record x.made in
-    let l = length-written b (40 * c) (record_bytes x.made) (omega arith) in
-    let n : 40 * (c + 1) ≡ 40 * c + length (record_bytes x.made) = omega arith in
-    let m : c + 1 + length xs ≡ c + suc (length xs) = omega arith in
-    added-bytes xs (c + 1) (unfit_after f x) (written b (40 * c) (record_bytes x.made)) (omega arith)
-    ∙ rw (n, written-more b (record_bytes x.made) (encode (map record_of xs)) (40 * c) (omega arith), m)
+-- the records of xs stand from place c on
+added-records : (xs : List Inlined) (c : ℕ) (f : Option FieldKey) (b : List Record) → c + length xs ≤ length b
+    → added_all (output (record { count = c; unfit = f }) b) xs
+    ≡ output (record { count = c + length xs; unfit = unfit_of f xs }) (take c b ++ map record_of xs ++ drop (c + length xs) b)
+unfolding added_all added unfit_of
+added-records [] c f b h = rw (add-zero c, append-nil (take c b)) (rw (take-append-drop c b))
+added-records (x ∷ xs) c f b h =
+    let n : c + 1 ≡ suc c = omega arith in
+    let m : suc c + length xs ≡ c + suc (length xs) = omega arith in
+    added-records xs (c + 1) (unfit_after f x) (set b c x.made) (omega (arith, length-set b c x.made))
+    ∙ rw (drop-set-lt (c + 1 + length xs) b c x.made (omega arith), n, take-suc-set b c x.made (omega arith), append_assoc (take c b) (x.made ∷ []) (map record_of xs), m)
 
 -- ---- the key that is kept is that of the first that is not fit
 
@@ -79,39 +76,39 @@ first-unfit xs = unfit-from xs (length xs) 0 xs (λ i. ap (λ (j : ℕ). get_or 
 -- ---- the answer
 
 module _ {rs : List Record} {targets sizes : List ℕ} (t : GroupsFirst rs) (y : TargetsKnown rs targets (length rs)) (z : Sized rs targets sizes (length rs)) where
-  module _ (h : 1600 < total_size sizes rs (length rs)) (b : List ℕ) where
+  module _ (h : 1600 < total_size sizes rs (length rs)) (b : List Record) where
     swollen : 1600 < length (inlined rs)
     swollen = let e = inlined-size rs targets sizes t y z in omega arith
 
-    pub ret-swollen : (Err Swollen ≡ inlining (length b) (inlined rs)) × (b ≡ inlining_bytes b (inlined rs))
-    unfolding inlining inlining_bytes
+    pub ret-swollen : (Err Swollen ≡ inlining (length b) (inlined rs)) × (b ≡ inlining_records b (inlined rs))
+    unfolding inlining inlining_records
     ret-swollen = (rw (lt-ltb _ _ swollen), rw (lt-ltb _ _ swollen))
 
-  module _ (h : total_size sizes rs (length rs) ≤ 1600) (out₀ : List ℕ) where
+  module _ (h : total_size sizes rs (length rs) ≤ 1600) (out₀ : List Record) where
     size : length (inlined rs) ≡ total_size sizes rs (length rs)
     size = let e = inlined-size rs targets sizes t y z in omega arith
 
     few : length (inlined rs) ≤ 1600
     few = let e = size in omega arith
 
-    pub ret-buffer-short : length out₀ < 40 * total_size sizes rs (length rs)
-        → (Err BufferShort ≡ inlining (length out₀) (inlined rs)) × (out₀ ≡ inlining_bytes out₀ (inlined rs))
-    unfolding inlining inlining_bytes
+    pub ret-buffer-short : length out₀ < total_size sizes rs (length rs)
+        → (Err BufferShort ≡ inlining (length out₀) (inlined rs)) × (out₀ ≡ inlining_records out₀ (inlined rs))
+    unfolding inlining inlining_records
     ret-buffer-short l =
         let e = size in
-        let m : length out₀ < 40 * length (inlined rs) = omega arith in
+        let m : length out₀ < length (inlined rs) = omega arith in
         (rw (le-ltb _ _ few, lt-ltb _ _ m), rw (le-ltb _ _ few, lt-ltb _ _ m))
 
-    module _ (l : 40 * total_size sizes rs (length rs) ≤ length out₀) {out : List ℕ} {s : ExpandProgress} (p : output s out ≡ added_all (output empty out₀) (inlined rs)) where
-      fits : 40 * length (inlined rs) ≤ length out₀
+    module _ (l : total_size sizes rs (length rs) ≤ length out₀) {out : List Record} {s : ExpandProgress} (p : output s out ≡ added_all (output empty out₀) (inlined rs)) where
+      fits : length (inlined rs) ≤ length out₀
       fits = let e = size in omega arith
 
-      whole : output s out ≡ output (record { count = length (inlined rs); unfit = unfit_of None (inlined rs) }) (written out₀ 0 (encode (map record_of (inlined rs))))
-      whole = let f = fits in p ∙ added-bytes (inlined rs) 0 None out₀ (omega arith) ∙ rw (zero-add (length (inlined rs)))
+      whole : output s out ≡ output (record { count = length (inlined rs); unfit = unfit_of None (inlined rs) }) (map record_of (inlined rs) ++ drop (length (inlined rs)) out₀)
+      whole = let f = fits in p ∙ added-records (inlined rs) 0 None out₀ (omega arith) ∙ rw (zero-add (length (inlined rs)))
 
-      pub ret-fits : {r : Result ℕ InlineError} → r ≡ by_fit s.count s.unfit → (r ≡ inlining (length out₀) (inlined rs)) × (out ≡ inlining_bytes out₀ (inlined rs))
-      unfolding inlining inlining_bytes
+      pub ret-fits : {r : Result ℕ InlineError} → r ≡ by_fit s.count s.unfit → (r ≡ inlining (length out₀) (inlined rs)) × (out ≡ inlining_records out₀ (inlined rs))
+      unfolding inlining inlining_records
       ret-fits e = (
         e ∙ ap (λ (u : Output). by_fit u.progress.count u.progress.unfit) whole ∙ first-unfit (inlined rs) ∙ rw (le-ltb _ _ few, le-ltb _ _ fits),
-        ap (λ (u : Output). u.bytes) whole ∙ rw (le-ltb _ _ few, le-ltb _ _ fits),
+        ap (λ (u : Output). u.records) whole ∙ rw (le-ltb _ _ few, le-ltb _ _ fits),
       )

@@ -1,9 +1,9 @@
--- The answer of inlining, and the bytes that it writes.
-use Rattle.std.specs.Prelude.{ℕ, ◌*◌, List, [], ◌∷◌, map, length, get_or, ltb, if◌then◌else◌, None, Option, Some, Result, Ok, Err}
-use Rattle.rules.specs.Bytes.{written}
-use Rattle.rules.specs.Table.{record_length, most_records, blank, encode, field_key}
+-- The answer of inlining, and the records that it writes.
+use Rattle.std.specs.Prelude.{ℕ, List, [], ◌∷◌, ◌++◌, map, length, get_or, drop, ltb, if◌then◌else◌, None, Option, Some, Result, Ok, Err}
+use Rattle.rules.specs.Table.{most_records, blank, field_key}
 use Rattle.rules.specs.InlineGroups.{kept, record_of, first_unfit}
 use Rattle.rules.specs.Replies.{Numbered, numbers}
+use Rattle.rules.specs.declared.Record.{Record}
 use Rattle.rules.specs.declared.Inlined.{Inlined}
 use Rattle.rules.specs.declared.FieldKey.{FieldKey}
 use Rattle.inline_groups.specs.declared.InlineError.{InlineError}
@@ -26,16 +26,16 @@ unfoldable pub by_fit : ℕ → Option FieldKey → Result ℕ InlineError
 by_fit n None = Ok n
 by_fit n (Some k) = Err (Unfit k)
 
--- the answer for the records of an inlined table and a buffer of m bytes
+-- the answer for the records of an inlined table and a buffer of m records
 unfoldable pub inlining : ℕ → List Inlined → Result ℕ InlineError
 inlining m xs =
     if ltb most_records (length xs) then Err Swollen
-    else if ltb m (record_length * length xs) then Err BufferShort
+    else if ltb m (length xs) then Err BufferShort
     else inlined_or_unfit xs (first_unfit xs)
 
--- a buffer b with those records at its start, unless they are too many or longer than b
-unfoldable pub inlining_bytes : List ℕ → List Inlined → List ℕ
-inlining_bytes b xs =
+-- a buffer b with those records at its start, unless they are too many or more than b has
+unfoldable pub inlining_records : List Record → List Inlined → List Record
+inlining_records b xs =
     if ltb most_records (length xs) then b
-    else if ltb (length b) (record_length * length xs) then b
-    else written b 0 (encode (map record_of xs))
+    else if ltb (length b) (length xs) then b
+    else map record_of xs ++ drop (length xs) b

@@ -4,17 +4,17 @@
 ghost use Rattle.std.specs.Prelude.{◌≡◌, ◌≤◌, length};
 ghost use Rattle.rules.specs.InlineGroups.{inlined};
 ghost use Rattle.group_sizes.specs.GroupsFirst.{GroupsFirst};
-ghost use Rattle.inline_groups.specs.Inlinings.{inlining, inlining_numbered, by_fit, inlining_bytes};
+ghost use Rattle.inline_groups.specs.Inlinings.{inlining, inlining_numbered, by_fit, inlining_records};
 
 use group_table::ExpandProgress;
+use rules::limits::MOST_RECORDS;
 use rules::{FieldKey, Record};
-use rules::limits::{MOST_RECORDS, RECORD_LENGTH};
 
 // Why there is no inlined table: a row of the table of replies, or a buffer that is too short for it.
 #[derive(Clone, Copy)]
 pub enum InlineError {
     Swollen,
-    // the inlined table is longer than the buffer
+    // the inlined table has more records than the buffer
     BufferShort,
     Unfit(FieldKey),
 }
@@ -33,11 +33,11 @@ fn inline_with(
     table: &[Record],
     targets: &mut [u16],
     sizes: &mut [u16],
-    out: &mut [u8],
+    out: &mut [Record],
 ) -> Result<usize, InlineError>
     requires table_len_bound { (length table.now ≤ 1600) × (length table.now ≤ length targets.old) × (length table.now ≤ length sizes.old) }
     requires groups_first { GroupsFirst table.now }
-    ensures { (result ≡ inlining (length out.old) (inlined table.now)) × (out.new ≡ inlining_bytes out.old (inlined table.now)) }
+    ensures { (result ≡ inlining (length out.old) (inlined table.now)) × (out.new ≡ inlining_records out.old (inlined table.now)) }
 {
     group_sizes::targets::fill(table, targets);
     group_sizes::measure(table, targets, sizes);
@@ -45,17 +45,17 @@ fn inline_with(
     if MOST_RECORDS < n {
         return Err(InlineError::Swollen);
     }
-    if out.len() < RECORD_LENGTH * n {
+    if out.len() < n {
         return Err(InlineError::BufferShort);
     }
     by_fit(group_table::write_all(table, targets, sizes, out))
 }
 
 // Inlines the groups of a table in listed order into a buffer, if the inlined table fits it. Returns how many records it has.
-pub fn inline_groups(table: &[Record], out: &mut [u8]) -> Result<usize, InlineError>
+pub fn inline_groups(table: &[Record], out: &mut [Record]) -> Result<usize, InlineError>
     requires table_len_bound { length table.now ≤ 1600 }
     requires groups_first { GroupsFirst table.now }
-    ensures value { (result ≡ inlining (length out.old) (inlined table.now)) × (out.new ≡ inlining_bytes out.old (inlined table.now)) }
+    ensures value { (result ≡ inlining (length out.old) (inlined table.now)) × (out.new ≡ inlining_records out.old (inlined table.now)) }
     ensures numbered { inlining_numbered result ≡ inlining_numbered (inlining (length out.old) (inlined table.now)) }
 {
     let mut targets = [0u16; MOST_RECORDS];

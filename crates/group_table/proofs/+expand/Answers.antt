@@ -42,7 +42,7 @@ loop-p-preserved t c =
     elim c.if-k-eq-GROUP_FIELD.branch [
       | then-k-eq-GROUP_FIELD+then-sizes-g-ne0 w ↦ rw (w.env-is, w.out-is, w.s-is) (turn-group c.requires v h.below h.inside (seen-flag h _) (seen-group h w.if-k-eq-GROUP_FIELD.true) w.push_constraints.ensures w.expand-s.ensures (rw (w.truncate.ensures, w.len-top.ensures)) w.expand-s.auto.out)
       | then-k-eq-GROUP_FIELD+else-sizes-g-ne0 w ↦ rw (w.env-is, w.out-is, w.s-is) (turn-empty c.requires v h.below h.inside (seen-flag h _) (seen-group h w.if-k-eq-GROUP_FIELD.true) w.if-sizes-g-ne0.false)
-      | else-k-eq-GROUP_FIELD+then-not-bound w ↦ rw (w.env-is, w.out-is, w.s-is) (turn_one c.requires v h.below h.inside (seen-flag h _) (seen_other h w.if-k-eq-GROUP_FIELD.false) (seen-bound h _ _ w.if-not-bound.true) (added-record _ _ _ w.«record».ensures (rw w.as_slice.ensures at w.inlined_record.ensures) w.add-s.ensures) w.add-s.auto.out)
+      | else-k-eq-GROUP_FIELD+then-not-bound w ↦ rw (w.env-is, w.out-is, w.s-is) (turn_one c.requires v h.below h.inside (seen-flag h _) (seen_other h w.if-k-eq-GROUP_FIELD.false) (seen-bound h _ _ w.if-not-bound.true) (added-record _ _ _ w.at-r.ensures (rw w.as_slice.ensures at w.inlined_record.ensures) w.add-s.ensures) w.add-s.auto.out)
       | else-k-eq-GROUP_FIELD+else-not-bound w ↦ rw (w.env-is, w.out-is, w.s-is) (turn-lost c.requires v h.below h.inside (seen-flag h _) (seen_other h w.if-k-eq-GROUP_FIELD.false) (seen-bound h _ _ w.if-not-bound.false))
     ]
 

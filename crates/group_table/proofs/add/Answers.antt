@@ -4,4 +4,4 @@ use Rattle.group_table.proofs.add.Goals as goal
 
 pub returns : goal.returns
 unfolding added
-returns c = rw (c.put.ensures, c.unfit_after.ensures)
+returns c = rw c.unfit_after.ensures

@@ -15,20 +15,20 @@ loop-d-init c = rw c.new-env.ensures (write-start _ _ _)
 
 pub add-first-requires : goal.add-first-requires
 add-first-requires c =
-    call-first c.requires.room_for_inlined c.requires.table_bound c.loop-d.invariant (omega arith) (keeps c.record-r.ensures c.is_kept.ensures c.if-is_kept.true)
+    call-first c.requires.room_for_inlined c.requires.table_bound c.loop-d.invariant (omega arith) (keeps c.at-r.ensures c.is_kept.ensures c.if-is_kept.true)
 
 pub expand-s-requires : goal.expand-s-requires
 expand-s-requires c =
     let a = c.add-first in
-    call-rest c.requires.room_for_inlined c.requires.table_bound c.loop-d.invariant (omega arith) (keeps c.record-r.ensures c.is_kept.ensures c.if-is_kept.true) (added-kept _ c.record-r.ensures a.ensures) a.auto.out
+    call-rest c.requires.room_for_inlined c.requires.table_bound c.loop-d.invariant (omega arith) (keeps c.at-r.ensures c.is_kept.ensures c.if-is_kept.true) (added-kept _ c.at-r.ensures a.ensures) a.auto.out
 
 pub loop-d-preserved : goal.loop-d-preserved
 loop-d-preserved c =
     let r = c.requires in
     let v = c.loop-d.invariant in
     elim c.if-is_kept.branch [
-      | then-is_kept w ↦ rw (w.env-is, w.out-is, w.s-is) (write-next r.room_for_inlined r.table_bound v (omega arith) (keeps c.record-r.ensures c.is_kept.ensures w.if-is_kept.true) (added-kept _ c.record-r.ensures w.add-first.ensures) w.add-first.auto.out w.expand-s.ensures w.expand-s.auto.out)
-      | else-is_kept w ↦ rw (w.env-is, w.out-is, w.s-is) (write-other r.room_for_inlined r.table_bound v (omega arith) (keeps c.record-r.ensures c.is_kept.ensures w.if-is_kept.false))
+      | then-is_kept w ↦ rw (w.env-is, w.out-is, w.s-is) (write-next r.room_for_inlined r.table_bound v (omega arith) (keeps c.at-r.ensures c.is_kept.ensures w.if-is_kept.true) (added-kept _ c.at-r.ensures w.add-first.ensures) w.add-first.auto.out w.expand-s.ensures w.expand-s.auto.out)
+      | else-is_kept w ↦ rw (w.env-is, w.out-is, w.s-is) (write-other r.room_for_inlined r.table_bound v (omega arith) (keeps c.at-r.ensures c.is_kept.ensures w.if-is_kept.false))
     ]
 
 pub returns : goal.returns
