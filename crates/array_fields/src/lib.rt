@@ -3,19 +3,12 @@
 
 ghost use Rattle.std.specs.Prelude.{◌≡◌};
 ghost use Rattle.std.specs.Option.{option_to_list};
-ghost use Rattle.rules.specs.Places.{first_within};
 ghost use Rattle.rules.specs.ArrayFields.{redundant_size, pass8_at};
-ghost use Rattle.rules.specs.declared.Target.TheVariants.{SizeOrDecl};
 
 use rules::{Fault, Record, Target, codes};
 
-// The first Size or Count of this name in the declaration that `place` stands in.
-fn first_size(table: &[Record], name: u16, place: usize) -> Option<usize>
-    ensures { result ≡ first_within table.now (SizeOrDecl name) place }
-{
-    search::first_within(table, Target::SizeOrDecl(name), place)
-}
-
+// 38 for what was found, if it stands in the declaration.
+#[tactic(auto, unfolding(rules::specs::ArrayFields::redundant_size, rules::specs::Places::found_inside))]
 fn redundant_size(table: &[Record], place: usize, found: Option<usize>) -> Option<Fault>
     ensures { option_to_list result ≡ redundant_size table.now place found }
 {
@@ -27,12 +20,15 @@ fn redundant_size(table: &[Record], place: usize, found: Option<usize>) -> Optio
     ))
 }
 
+// The fault of the array at `place`, if any.
+#[tactic(auto, unfolding(rules::specs::ArrayFields::pass8_at))]
 pub fn at_place(table: &[Record], place: usize) -> Option<Fault>
     ensures { option_to_list result ≡ pass8_at table.now place }
 {
     let r = table::at(table, place);
     if (r.kind == kinds::ARRAY) & (2 <= r.marks) {
-        return redundant_size(table, place, first_size(table, r.name, place));
+        let found = search::first_within(table, Target::SizeOrDecl(r.name), place);
+        return redundant_size(table, place, found);
     }
     None
 }

@@ -4,13 +4,14 @@
 ghost use Rattle.std.specs.Prelude.{◌≡◌};
 ghost use Rattle.std.specs.Option.{option_to_list};
 ghost use Rattle.rules.specs.FixedFields.{enum_fault, pass6_at};
-ghost use Rattle.declarations.specs.Starts.{Starts};
 
+use declarations::Names;
 use faults::when;
 use rules::{Fault, Record, Target, codes};
 use search::members::has_member;
 
 // 33, 34, 35 for a missing enum, a missing tag, no enum.
+#[tactic(auto, unfolding(rules::specs::FixedFields::enum_fault, rules::specs::Choice::when))]
 fn enum_fault(table: &[Record], place: usize, found: Option<usize>) -> Option<Fault>
     ensures { option_to_list result ≡ enum_fault table.now place found }
 {
@@ -28,24 +29,18 @@ fn enum_fault(table: &[Record], place: usize, found: Option<usize>) -> Option<Fa
     )
 }
 
-pub fn at_place(table: &[Record], starts: &[u16], place: usize) -> Option<Fault>
-    requires { Starts table.now starts.now }
-    ensures { option_to_list result ≡ pass6_at table.now place }
+// The fault of the fixed field at `place`, if any.
+#[tactic(auto, unfolding(rules::specs::FixedFields::pass6_at))]
+pub fn at_place(names: &Names, place: usize) -> Option<Fault>
+    ensures { option_to_list result ≡ pass6_at names.now.table.now place }
 {
-    let r = table::at(table, place);
-    let k = r.kind;
-    if k == kinds::FIXED_SCALAR {
-        return when(
+    let r = table::at(names.table, place);
+    match r.kind {
+        kinds::FIXED_SCALAR => when(
             r.one < widths::bit_width(r.two),
             faults::fault::single(codes::FIXED_VALUE_OUT_OF_RANGE, r),
-        );
+        ),
+        kinds::FIXED_ENUM => enum_fault(names.table, place, names.decl_named(r.second)),
+        _ => None,
     }
-    if k == kinds::FIXED_ENUM {
-        return enum_fault(
-            table,
-            place,
-            declarations::decl_named(table, starts, r.second),
-        );
-    }
-    None
 }

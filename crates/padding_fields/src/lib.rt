@@ -8,6 +8,8 @@ ghost use Rattle.rules.specs.PaddingFields.{not_after_array, pass9_at};
 use faults::when;
 use rules::{Fault, Record, Target, codes};
 
+// 39 unless what was found is an array.
+#[tactic(auto, unfolding(rules::specs::PaddingFields::not_after_array, rules::specs::Choice::when))]
 fn not_after_array(table: &[Record], place: usize, found: Option<usize>) -> Option<Fault>
     ensures { option_to_list result ≡ not_after_array table.now place found }
 {
@@ -18,6 +20,8 @@ fn not_after_array(table: &[Record], place: usize, found: Option<usize>) -> Opti
     )
 }
 
+// The fault of the padding at `place`, if any.
+#[tactic(auto, unfolding(rules::specs::PaddingFields::pass9_at))]
 pub fn at_place(table: &[Record], place: usize) -> Option<Fault>
     ensures { option_to_list result ≡ pass9_at table.now place }
 {

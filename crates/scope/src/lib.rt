@@ -4,18 +4,20 @@
 ghost use Rattle.std.specs.Prelude.{◌≡◌};
 ghost use Rattle.std.specs.Option.{option_to_list};
 ghost use Rattle.rules.specs.Scopes.{pass1_at};
-ghost use Rattle.declarations.specs.Starts.{Starts};
 
-use rules::{Fault, Record, codes};
+use declarations::Names;
+use rules::{Fault, codes};
 
-pub fn at_place(table: &[Record], starts: &[u16], place: usize) -> Option<Fault>
-    requires { Starts table.now starts.now }
-    ensures { option_to_list result ≡ pass1_at table.now place }
+// The fault of the declaration at `place` if its name is repeated.
+#[tactic(auto, unfolding(rules::specs::Scopes::pass1_at, rules::specs::Scopes::redeclared))]
+pub fn at_place(names: &Names, place: usize) -> Option<Fault>
+    ensures { option_to_list result ≡ pass1_at names.now.table.now place }
 {
+    let table = names.table;
     if !kinds::is_named_decl(table::kind(table, place)) {
         return None;
     }
-    let q = declarations::earlier(table, starts, place)?;
+    let q = names.earlier(place)?;
     Some(faults::fault::double(
         codes::DUPLICATE_DECL_IDENTIFIER,
         table::at(table, place),
