@@ -7,11 +7,11 @@ ghost use Rattle.rules.specs.Table.{at};
 ghost use Rattle.rules.specs.Faults.{single, log};
 ghost use Rattle.rules.specs.DeclIdentifiers.{visited};
 ghost use Rattle.faults.specs.Notes.{noted};
-ghost use Rattle.declarations.specs.Starts.{Starts};
 ghost use Rattle.decl_visits.specs.Contract.{StateHeld, VisitReady, Within, Visited, Walked};
 
 use decl_references::field_references::field_reference;
 use decl_references::{own_reference, root_reference};
+use declarations::Names;
 use rules::{Record, Reference, Tally, codes};
 
 // The marks of declarations. They stay numbers, as the rules' `State` has them: each clause would have to map an enum's.
@@ -52,20 +52,19 @@ impl VisitProgress {
 // Takes up a reference: a declaration is visited, a fault is noted.
 #[cycle(visit_walk)]
 fn take_up(
-    table: &[Record],
-    starts: &[u16],
+    names: &Names,
     reference: Reference,
     marks: &mut [u8],
     places: &mut [u16],
     buffer: &mut [u8],
     progress: &mut VisitProgress,
 )
-    requires { Within (length table.now) reference × VisitReady table.now marks.old places.old buffer.old progress.old 1 0 × Starts table.now starts.now }
-    ensures { Visited table.now reference marks.old places.old buffer.old progress.old marks.new places.new buffer.new progress.new }
+    requires { Within (length names.now.table.now) reference × VisitReady names.now.table.now marks.old places.old buffer.old progress.old 1 0 }
+    ensures { Visited names.now.table.now reference marks.old places.old buffer.old progress.old marks.new places.new buffer.new progress.new }
 {
     match reference {
-        Reference::Follow(d) => visit(table, starts, d, marks, places, buffer, progress),
-        Reference::Wrong(code, p) => progress.note(table, buffer, code, p),
+        Reference::Follow(d) => visit(names, d, marks, places, buffer, progress),
+        Reference::Wrong(code, p) => progress.note(names.table, buffer, code, p),
         Reference::Nowhere => {}
     }
 }
@@ -73,74 +72,71 @@ fn take_up(
 // Visits the declaration at `decl`: what its fields refer to, then its parent, then `decl` is listed.
 #[cycle(visit_walk)]
 fn visit(
-    table: &[Record],
-    starts: &[u16],
+    names: &Names,
     decl: usize,
     marks: &mut [u8],
     places: &mut [u16],
     buffer: &mut [u8],
     progress: &mut VisitProgress,
 )
-    requires { (decl < length table.now) × VisitReady table.now marks.old places.old buffer.old progress.old 1 0 × Starts table.now starts.now }
-    ensures { Visited table.now (Reference.Follow decl) marks.old places.old buffer.old progress.old marks.new places.new buffer.new progress.new }
+    requires { (decl < length names.now.table.now) × VisitReady names.now.table.now marks.old places.old buffer.old progress.old 1 0 }
+    ensures { Visited names.now.table.now (Reference.Follow decl) marks.old places.old buffer.old progress.old marks.new places.new buffer.new progress.new }
 {
     let m = marks[decl];
     if m == UNVISITED {
         marks[decl] = VISITING;
-        walk(table, starts, decl + 1, marks, places, buffer, progress);
-        let r = own_reference(table, starts, decl);
-        take_up(table, starts, r, marks, places, buffer, progress);
+        walk(names, decl + 1, marks, places, buffer, progress);
+        let r = own_reference(names, decl);
+        take_up(names, r, marks, places, buffer, progress);
         progress.list(decl, marks, places);
     } else if m == VISITING {
-        progress.note(table, buffer, codes::RECURSIVE_DECL, decl);
+        progress.note(names.table, buffer, codes::RECURSIVE_DECL, decl);
     }
 }
 
 // Takes up what the fields from `place` on refer to, up to the next declaration.
 #[cycle(visit_walk)]
 fn walk(
-    table: &[Record],
-    starts: &[u16],
+    names: &Names,
     place: usize,
     marks: &mut [u8],
     places: &mut [u16],
     buffer: &mut [u8],
     progress: &mut VisitProgress,
 )
-    requires { VisitReady table.now marks.old places.old buffer.old progress.old (length table.now - place) 0 × Starts table.now starts.now }
-    ensures { Walked table.now place marks.old places.old buffer.old progress.old marks.new places.new buffer.new progress.new }
+    requires { VisitReady names.now.table.now marks.old places.old buffer.old progress.old (length names.now.table.now - place) 0 }
+    ensures { Walked names.now.table.now place marks.old places.old buffer.old progress.old marks.new places.new buffer.new progress.new }
 {
-    for q in place..table.len() {
-        let k = table::kind(table, q);
+    for q in place..names.table.len() {
+        let k = names.table[q].kind;
         if kinds::is_decl(k) {
             return;
         }
         if !kinds::may_refer(k) {
             continue;
         }
-        let r = field_reference(table, starts, q);
-        take_up(table, starts, r, marks, places, buffer, progress);
+        let r = field_reference(names, q);
+        take_up(names, r, marks, places, buffer, progress);
     }
 }
 
 // Takes up what each record refers to, in table order. The first listed places of `places` are the order.
 pub fn visit_all(
-    table: &[Record],
-    starts: &[u16],
+    names: &Names,
     marks: &mut [u8],
     places: &mut [u16],
     buffer: &mut [u8],
 ) -> VisitProgress
-    requires { (length table.now ≤ 1600) × (marks.old ≡ replicate (length table.now) 0) × (length table.now ≤ length places.old) × Starts table.now starts.now }
-    ensures { StateHeld table.now places.old buffer.old (visited table.now) marks.new places.new buffer.new result }
+    requires { (length names.now.table.now ≤ 1600) × (marks.old ≡ replicate (length names.now.table.now) 0) × (length names.now.table.now ≤ length places.old) }
+    ensures { StateHeld names.now.table.now places.old buffer.old (visited names.now.table.now) marks.new places.new buffer.new result }
 {
     let mut progress = VisitProgress {
         listed: 0,
         tally: faults::no_faults(),
     };
-    for p in 0..table.len() {
-        let r = root_reference(table, starts, p);
-        take_up(table, starts, r, marks, places, buffer, &mut progress);
+    for p in 0..names.table.len() {
+        let r = root_reference(names, p);
+        take_up(names, r, marks, places, buffer, &mut progress);
     }
     progress
 }

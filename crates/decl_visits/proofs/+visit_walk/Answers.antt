@@ -1,5 +1,6 @@
 -- The cycle of calls of `decl_visits::visit`, `decl_visits::take_up` and `decl_visits::walk` meets its contracts; the laws are in VisitReady. Assumes nothing.
 use Rattle.std.proofs.Common.{◌<◌, length, sym, arith}
+use Rattle.rules.specs.Table.{at}
 use Rattle.decl_visits.proofs.VisitReady.{call-walk, call-own, call-list, ret-new, ret-open, ret-listed, ret-follow, ret-wrong, walk-start, walk-decl, walk-past, walk-skip, walk-call, walk-turn}
 use Rattle.decl_visits.proofs.+visit_walk.Goals as goal
 
@@ -11,13 +12,11 @@ take_up-returns-in-Wrong t c = ret-wrong _ _ _ _ _ c.in-Wrong.is c.note.ensures
 
 pub visit-walk-requires : goal.visit-walk-requires
 visit-walk-requires t c =
-    let h = call-walk _ _ _ _ _ c.requires.0 c.requires.1 c.if-m-eq-UNVISITED.true c.decreases in
-    (h.0, (h.1, c.requires.2))
+    call-walk _ _ _ _ _ c.requires.0 c.requires.1 c.if-m-eq-UNVISITED.true c.decreases
 
 pub visit-take_up-requires : goal.visit-take_up-requires
 visit-take_up-requires t c =
-    let h = call-own _ _ _ _ _ c.requires.0 c.requires.1 c.if-m-eq-UNVISITED.true c.walk.ensures c.walk.auto.places c.own_reference-r.ensures c.decreases in
-    (h.0, (h.1.0, h.1.1, c.requires.2))
+    call-own _ _ _ _ _ c.requires.0 c.requires.1 c.if-m-eq-UNVISITED.true c.walk.ensures c.walk.auto.places c.own_reference-r.ensures c.decreases
 
 pub visit-list-requires : goal.visit-list-requires
 visit-list-requires t c =
@@ -34,26 +33,29 @@ pub visit-returns-else-m-eq-VISITING : goal.visit-returns-else-m-eq-VISITING
 visit-returns-else-m-eq-VISITING t c = ret-listed _ _ _ _ _ c.requires.0 c.requires.1 c.if-m-eq-UNVISITED.false c.if-m-eq-VISITING.false
 
 pub walk-loop-q-init : goal.walk-loop-q-init
-walk-loop-q-init t c = walk-start _ _ _ _ _ _ c.requires.0
+walk-loop-q-init t c = walk-start _ _ _ _ _ _ c.requires
 
 pub walk-returns-then-is_decl : goal.walk-returns-then-is_decl
-walk-returns-then-is_decl t c = walk-decl _ c.loop-q.invariant (rw (← c.kind-k.ensures) (sym c.if-is_decl.ensures))
+unfolding at
+walk-returns-then-is_decl t c = walk-decl _ c.loop-q.invariant (sym c.if-is_decl.ensures)
 
 pub walk-loop-q-preserved-then-not-may_refer : goal.walk-loop-q-preserved-then-not-may_refer
+unfolding at
 walk-loop-q-preserved-then-not-may_refer t c =
-    let l : c.loop-q.q < length c.args.table.now = omega (arith, c.count-q-end.ensures, c.loop-q-test.true) in
-    walk-skip _ c.loop-q.invariant l (rw (← c.kind-k.ensures) (sym c.if-is_decl.ensures)) (rw (← c.kind-k.ensures) (sym c.if-not-may_refer.ensures))
+    let l : c.loop-q.q < length c.args.names.now.table.now = omega arith in
+    walk-skip _ c.loop-q.invariant l (sym c.if-is_decl.ensures) (sym c.if-not-may_refer.ensures)
 
 pub walk-take_up-requires : goal.walk-take_up-requires
+unfolding at
 walk-take_up-requires t c =
-    let l : c.loop-q.q < length c.args.table.now = omega (arith, c.count-q-end.ensures, c.loop-q-test.true) in
-    let h = walk-call _ c.loop-q.invariant l (rw (← c.kind-k.ensures) (sym c.if-is_decl.ensures)) c.field_reference-r.ensures c.decreases in
-    (h.0, (h.1.0, h.1.1, c.requires.1))
+    let l : c.loop-q.q < length c.args.names.now.table.now = omega arith in
+    walk-call _ c.loop-q.invariant l (sym c.if-is_decl.ensures) c.field_reference-r.ensures c.decreases
 
 pub walk-loop-q-preserved : goal.walk-loop-q-preserved
+unfolding at
 walk-loop-q-preserved t c =
-    let l : c.loop-q.q < length c.args.table.now = omega (arith, c.count-q-end.ensures, c.loop-q-test.true) in
-    walk-turn _ c.loop-q.invariant l (rw (← c.kind-k.ensures) (sym c.if-is_decl.ensures)) c.field_reference-r.ensures _ _ _ _ c.take_up.ensures c.take_up.auto.places
+    let l : c.loop-q.q < length c.args.names.now.table.now = omega arith in
+    walk-turn _ c.loop-q.invariant l (sym c.if-is_decl.ensures) c.field_reference-r.ensures _ _ _ _ c.take_up.ensures c.take_up.auto.places
 
 pub walk-returns : goal.walk-returns
-walk-returns t c = walk-past _ c.loop-q.invariant (omega (arith, c.count-q-end.ensures, c.loop-q-test.false))
+walk-returns t c = walk-past _ c.loop-q.invariant (omega arith)

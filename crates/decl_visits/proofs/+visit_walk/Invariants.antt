@@ -14,4 +14,4 @@ abbrev pub decreases-walk : goal.decreases-walk
 decreases-walk l = unvisited_count l.marks.now * 3 + 2
 
 abbrev pub invariant-walk-loop-q : goal.invariant-walk-loop-q
-invariant-walk-loop-q l = Walking l.table l.place l.initial.marks l.initial.places l.initial.buffer l.initial.progress l.marks l.places l.buffer l.progress l.q
+invariant-walk-loop-q l = Walking l.names.table.now l.place l.initial.marks l.initial.places l.initial.buffer l.initial.progress l.marks l.places l.buffer l.progress l.q

@@ -9,14 +9,13 @@ loop-p-init c =
 
 pub take_up-requires : goal.take_up-requires
 take_up-requires c =
-    let l : c.loop-p.p < length c.args.table.now = omega (arith, c.count-p-end.ensures, c.loop-p-test.true) in
-    let h = loop-call _ _ _ _ _ _ _ _ c.loop-p.invariant l c.root_reference-r.ensures in
-    (h.0, h.1, c.requires.3)
+    let l : c.loop-p.p < length c.args.names.now.table.now = omega arith in
+    loop-call _ _ _ _ _ _ _ _ c.loop-p.invariant l c.root_reference-r.ensures
 
 pub loop-p-preserved : goal.loop-p-preserved
 loop-p-preserved c =
-    let l : c.loop-p.p < length c.args.table.now = omega (arith, c.count-p-end.ensures, c.loop-p-test.true) in
+    let l : c.loop-p.p < length c.args.names.now.table.now = omega arith in
     loop-turn _ _ _ _ _ _ _ _ c.loop-p.invariant l c.root_reference-r.ensures _ _ _ _ c.take_up.ensures c.take_up.auto.places
 
 pub returns : goal.returns
-returns c = loop-end _ _ _ _ _ _ _ _ c.loop-p.invariant (omega (arith, c.count-p-end.ensures, c.loop-p-test.false))
+returns c = loop-end _ _ _ _ _ _ _ _ c.loop-p.invariant (omega arith)
