@@ -3,4 +3,4 @@ use Rattle.group_sizes.specs.Targets.{TargetsKnown}
 use Rattle.group_sizes.proofs.targets.fill_from.Given as goal
 
 abbrev pub invariant-loop-p : goal.invariant-loop-p
-invariant-loop-p l = TargetsKnown l.table l.targets l.p
+invariant-loop-p l = TargetsKnown l.names.table.now l.targets l.p
