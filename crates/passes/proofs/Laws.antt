@@ -100,7 +100,7 @@ module _ (ls : List Record) (b l t : List ℕ) {x : Result (Unit {0}) checks.Fau
 
 -- ---- the table that pass 2 lists
 
-module _ (i b : List ℕ) {b' out out' : List ℕ} (clean : pass1 i ≡ []) where
+module _ (i : List Record) (b : List ℕ) {b' : List ℕ} {out out' : List Record} (clean : pass1 i ≡ []) where
   pub faulty-order : (t : List ℕ) {y : Tally} → DeclIdentifiersChecked i b out b' out' (Err y) → answered (Faulty 2 y.total) t b' ≡ by_passes i t b
   faulty-order t {y} h = told b (pass2 i) h.1 2 t ∙ sym (faulty-two i t b clean (some (pass2 i) h.0))
     where
@@ -113,11 +113,11 @@ module _ (i b : List ℕ) {b' out out' : List ℕ} (clean : pass1 i ≡ []) wher
     listed-few = h.2.short
 
     -- what passes 3 to 9 and inlining require of it
-    pub listed-ready : length i ≤ 1600 → (length (decode (take (40 * n) out')) ≤ 1600) × GroupsFirst (decode (take (40 * n) out'))
+    pub listed-ready : length i ≤ 1600 → (length (take n out') ≤ 1600) × GroupsFirst (take n out')
     listed-ready few =
         rw h.2.records
         (omega (arith, h.2.count, h.2.short), groups-first i h.0 (unique-names i clean))
 
-    pub listed_answer : (t : List ℕ) {x : Answer} → x ≡ by_listed (decode (take (40 * n) out')) t b' → x ≡ by_passes i t b
+    pub listed_answer : (t : List ℕ) {x : Answer} → x ≡ by_listed (take n out') t b' → x ≡ by_passes i t b
     listed_answer t e =
         (rw (h.2.records, (no-fault b (pass2 i) h.1 (omega arith)).0) at e) ∙ sym (clean-two i t b clean h.0)

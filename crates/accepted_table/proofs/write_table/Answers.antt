@@ -1,42 +1,19 @@
--- `accepted_table::write_table` meets its contract: the inlined table is read back from its bytes. Assumes nothing.
+-- `accepted_table::write_table` meets its contract: the flags are made of what inlining wrote. Assumes nothing.
 use native.Mathlib.Omega.{arith}
 use mathlib.Core.Path.{sym}
-use Prim.Native.Nat.{◌*◌, ◌≤◌}
+use Prim.Native.Nat.{◌≤◌}
 use lib.ListN.{length}
 use lib.Seq.{length-take-le}
 use Rattle.std.specs.Prelude.{◌≡◌}
 use Rattle.rules.specs.InlineGroups.{inlined}
-use Rattle.accepted_table.proofs.Laws.{told-swollen, told-short, told-unfit, inlined-few, part-few, told-inlined}
+use Rattle.accepted_table.proofs.Laws.{told-swollen, told-short, told-unfit, inlined-few, told-inlined}
 use Rattle.accepted_table.proofs.write_table.Goals as goal
 use Rattle.accepted_table.proofs.write_table.Goals.{In-Ok}
 
 -- what the inlined table has, where it was made
-fits-few : (c : In-Ok)
-    → (c.in-Ok.n ≤ 1600) × (c.in-Ok.n ≡ length (inlined c.args.listed.now)) × (40 * c.in-Ok.n ≤ length c.args.expanded.now)
+fits-few : (c : In-Ok) → (c.in-Ok.n ≤ 1600) × (c.in-Ok.n ≡ length (inlined c.args.listed.now)) × (c.in-Ok.n ≤ length c.args.expanded.now)
 fits-few c =
-    inlined-few c.args.listed.now (λ k. omega (arith, c.type_inv.listed k)) c.args.expanded.now c.inline_groups.ensures.value.0 c.inline_groups.ensures.value.1 _ c.in-Ok.is
-
-pub overflow_mul-end : goal.overflow_mul-end
-overflow_mul-end c =
-    let few = fits-few (goal.at.overflow_mul-end c).In-Ok in
-    omega (arith, few.0)
-
-pub slice_bounds-desugar_flags-end : goal.slice_bounds-desugar_flags-end
-slice_bounds-desugar_flags-end c =
-    let few = fits-few (goal.at.slice_bounds-desugar_flags-end c).In-Ok in
-    omega (arith, few.2, c.inline_groups.auto.out)
-
-pub slice_bounds-desugar_flags-end-in-Ok : goal.slice_bounds-desugar_flags-end-in-Ok
-slice_bounds-desugar_flags-end-in-Ok c =
-    let few = fits-few (goal.at.slice_bounds-desugar_flags-end-in-Ok c).In-Ok in
-    sym (length-take-le _ _ (omega (arith, few.2, c.inline_groups.auto.out)))
-
-pub desugar_flags-requires : goal.desugar_flags-requires
-desugar_flags-requires c =
-    let few = fits-few (goal.at.desugar_flags-requires c).In-Ok in
-    let b = c.inline_groups.new.out in
-    let fits : 40 * c.in-Ok.n ≤ length b = omega (arith, few.2, c.inline_groups.auto.out) in
-    part-few b fits (omega (arith, few.0))
+    inlined-few c.args.listed.now c.args.expanded.now c.inline_groups.ensures.value.0 c.inline_groups.ensures.value.1 _ c.in-Ok.is
 
 pub returns-in-Err-Swollen : goal.returns-in-Err-Swollen
 returns-in-Err-Swollen c = told-swollen _ _ c.inline_groups.ensures.value.0 _ (rw c.in-Err-Swollen.field-0-is at c.in-Err-Swollen.is)
@@ -49,6 +26,5 @@ returns-in-Err-Unfit c = told-unfit _ _ c.inline_groups.ensures.value.0 _ _ (rw 
 
 pub returns-in-Ok : goal.returns-in-Ok
 returns-in-Ok c =
-    told-inlined c.args.listed.now (λ k. omega (arith, c.type_inv.listed k)) c.args.expanded.now
-    c.inline_groups.ensures.value.0 c.inline_groups.ensures.value.1 _ c.in-Ok.is
+    told-inlined c.args.listed.now c.args.expanded.now c.inline_groups.ensures.value.0 c.inline_groups.ensures.value.1 _ c.in-Ok.is
     c.args.table.now _ c.desugar_flags.ensures

@@ -6,9 +6,6 @@ use Rattle.passes.proofs.check_order.Goals as goal
 pub returns-in-Err : goal.returns-in-Err
 returns-in-Err c = faulty-order _ _ c.requires.2 c.args.table.now c.in-Err.ensures
 
-pub overflow_mul-end : goal.overflow_mul-end
-overflow_mul-end c = omega (arith, listed-few _ _ c.requires.2 c.in-Ok.ensures, c.requires.0)
-
 -- the result before what it requires: a program that lists too little is refused here, and not only at what an empty table meets too
 pub returns-in-Ok : goal.returns-in-Ok
 returns-in-Ok c = listed_answer _ _ c.requires.2 c.in-Ok.ensures c.args.table.now c.check_listed.ensures
