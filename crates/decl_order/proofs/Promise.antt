@@ -15,7 +15,7 @@ use lib.ListN.{length, get_or}
 use Rattle.std.specs.Prelude.{if◌then◌else◌, None, Option, Some, ℕ}
 use Rattle.rules.specs.Kinds as kind
 use Rattle.rules.specs.Kinds.{is, is_decl, is_named_decl}
-use Rattle.rules.specs.Table.{at, bit1, named}
+use Rattle.rules.specs.Table.{decode, at, bit1, named}
 use Rattle.rules.specs.Places.{holds_at, decl_named}
 use Rattle.rules.specs.Visits.{PlaceFault, visit_all}
 use Rattle.rules.specs.DeclIdentifiers.{group_reference, type_reference, parent_reference, test_reference, field_reference, field_references, own_reference, references, root_reference, root_references, visited, fault_of, pass2, order}
@@ -435,4 +435,4 @@ module _ (rs : List Record) where
 
 -- demand 3
 pub demand3 : Demand3
-demand3 i sound unique = promise i unique
+demand3 i sound unique = promise (decode i) unique

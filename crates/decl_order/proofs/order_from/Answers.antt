@@ -1,5 +1,5 @@
 -- `decl_order::order_from` meets its contract. Assumes nothing.
-use Rattle.std.proofs.Common.{◌≡◌, ℕ, ◌≤◌, sym, take, replicate, length-take-le}
+use Rattle.std.proofs.Common.{◌≡◌, ℕ, ◌≤◌, refl, sym, take, replicate, length-take-le}
 use Rattle.std.proofs.lemmas.List.{take-replicate}
 use Rattle.decl_order.proofs.Checks.{ret-faulty, listed-short, call-copy, ret-copied}
 use Rattle.decl_order.proofs.order_from.Goals as goal
@@ -10,7 +10,7 @@ few-zeros {r} {n} e h = rw e (take-replicate n 1600 0 h)
 
 pub visit_all-a-requires : goal.visit_all-a-requires
 visit_all-a-requires c =
-    (c.requires.0, few-zeros c.count-n.ensures c.requires.0, c.requires.0, c.requires.2)
+    (c.requires.0, few-zeros refl c.requires.0, c.requires.0)
 
 pub returns-then-tally-gt0 : goal.returns-then-tally-gt0
 returns-then-tally-gt0 c =
