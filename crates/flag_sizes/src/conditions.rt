@@ -1,6 +1,6 @@
 // Conditions: their place in a declaration, the name that they give and the field before them.
 ghost use Rattle.std.specs.Prelude.{◌≡◌, ◌+◌, ◌-◌, ◌<◌};
-ghost use Rattle.rules.specs.DesugarFlags.{members_start, is_condition_on};
+ghost use Rattle.rules.specs.DesugarFlags.{members_start, entry_of, is_condition_on};
 
 use rules::Record;
 
@@ -20,7 +20,22 @@ pub fn is_condition_on(table: &[Record], flag: u16, place: usize) -> bool
     (kind == kinds::CONDITION) & (name == flag)
 }
 
+// The entry of the condition at `place`.
+pub fn entry_of(table: &[Record], place: usize) -> Record
+    ensures { result ≡ entry_of table.now place }
+{
+    let field = table::at(table, place_before(place));
+    let condition = table::at(table, place);
+    Record {
+        kind: kinds::FLAG_ENTRY,
+        name: field.name,
+        one: condition.one,
+        ..Record::default()
+    }
+}
+
 // Where the members of the declaration start that the place behind `place` stands in.
+#[tactic(auto, using(crate::proofs::Laws::start_next))]
 pub fn next_start(table: &[Record], place: usize, members: usize) -> usize
     requires { (place < 1600) × (members ≡ members_start table.now place) }
     ensures { result ≡ members_start table.now (place + 1) }

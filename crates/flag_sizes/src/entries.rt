@@ -1,11 +1,12 @@
-// The places that entries come from: the conditions that name a flag, and the entries that stand already.
+// Entries, one by one: those that the conditions which name a flag become, and those that stand already.
+ghost use Rattle.std.specs.Prelude.{◌-◌, length};
 ghost use Rattle.std.specs.Iterator.{YieldsFirst, item_count};
-ghost use Rattle.flag_sizes.specs.Places.{naming_from, standing_from};
+ghost use Rattle.rules.specs.DesugarFlags.{entries_at, entries_from};
 
 use crate::conditions;
 use rules::Record;
 
-// The places of the conditions that name `flag`, from `place` to the end of the declaration.
+// The entries of the conditions that name `flag`, from `place` to the end of the declaration.
 #[derive(Clone, Copy)]
 pub struct Naming<'a> {
     pub table: &'a [Record],
@@ -14,27 +15,28 @@ pub struct Naming<'a> {
 }
 
 impl<'a> Iterator for Naming<'a> {
-    type Item = usize;
+    type Item = Record;
 
-    ghost next_gives = { YieldsFirst (λ s. naming_from s.table.now s.flag s.place) };
+    ghost next_gives = { YieldsFirst (λ s. entries_from s.table.now s.flag s.place) };
 
-    ghost remaining = { item_count (λ s. naming_from s.table.now s.flag s.place) };
+    ghost remaining = { item_count (λ s. entries_from s.table.now s.flag s.place) };
 
-    fn next(&mut self) -> Option<usize> {
+    #[tactic(auto, using(crate::proofs::Laws::entries_steps))]
+    fn next(&mut self) -> Option<Record> {
         for p in self.place..self.table.len() {
             if kinds::is_decl(table::kind(self.table, p)) {
                 return None;
             }
             if conditions::is_condition_on(self.table, self.flag, p) {
                 self.place = p + 1;
-                return Some(p);
+                return Some(conditions::entry_of(self.table, p));
             }
         }
         None
     }
 }
 
-// The places of the entries that stand one after another from `place` on.
+// The entries that stand one after another from `place` on.
 #[derive(Clone, Copy)]
 pub struct Standing<'a> {
     pub table: &'a [Record],
@@ -42,18 +44,19 @@ pub struct Standing<'a> {
 }
 
 impl<'a> Iterator for Standing<'a> {
-    type Item = usize;
+    type Item = Record;
 
-    ghost next_gives = { YieldsFirst (λ s. standing_from s.table.now s.place) };
+    ghost next_gives = { YieldsFirst (λ s. entries_at s.table.now s.place (length s.table.now - s.place)) };
 
-    ghost remaining = { item_count (λ s. standing_from s.table.now s.place) };
+    ghost remaining = { item_count (λ s. entries_at s.table.now s.place (length s.table.now - s.place)) };
 
-    fn next(&mut self) -> Option<usize> {
+    #[tactic(auto, using(crate::proofs::Laws::own_steps))]
+    fn next(&mut self) -> Option<Record> {
         let p = self.place;
-        if p < self.table.len() && table::kind(self.table, p) == kinds::FLAG_ENTRY {
-            self.place = p + 1;
-            return Some(p);
+        if table::kind(self.table, p) != kinds::FLAG_ENTRY {
+            return None;
         }
-        None
+        self.place = p + 1;
+        Some(table::at(self.table, p))
     }
 }

@@ -15,6 +15,7 @@ use table::DIVISOR;
 
 // Stamps the remainders of the names that the conditions of a declaration give. Its members start at `from`, which is the stamp: no other
 // declaration has it.
+#[tactic(auto, using(crate::proofs::Laws::entries_steps))]
 fn mark_conditions(table: &[Record], from: usize, marks: &mut [u16])
     requires { (from ≤ 1600) × (4093 ≤ length marks.old) }
     ensures { ConditionsStamped table.now marks.new from }
@@ -32,6 +33,7 @@ fn mark_conditions(table: &[Record], from: usize, marks: &mut [u16])
 }
 
 // How many conditions name `flag`, from place `from` to the end of the declaration.
+#[tactic(auto, using(crate::proofs::Laws::few_entries))]
 fn count_entries(table: &[Record], flag: u16, from: usize) -> usize
     ensures { result ≡ length (entries_from table.now flag from) }
 {
@@ -60,6 +62,7 @@ fn count_made(table: &[Record], marks: &[u16], place: usize, members: usize) -> 
 }
 
 // How many entries stand one after another from place `from` on.
+#[tactic(auto, using(crate::proofs::Laws::few_own))]
 fn count_own(table: &[Record], from: usize) -> usize
     ensures { result ≡ length (entries_at table.now from (length table.now - from)) }
 {
@@ -67,6 +70,7 @@ fn count_own(table: &[Record], from: usize) -> usize
 }
 
 // How many conditions stand behind `place`.
+#[tactic(auto, unfolding(rules::specs::DesugarFlags::condition_at, rules::specs::Choice::when))]
 fn count_condition(table: &[Record], place: usize) -> usize
     ensures { result ≡ length (condition_at table.now (place + 1)) }
 {
@@ -74,6 +78,7 @@ fn count_condition(table: &[Record], place: usize) -> usize
 }
 
 // How many records the record at `place` becomes, for which so many entries are made.
+#[tactic(auto, using(crate::proofs::Laws::size_laws))]
 fn size_at(table: &[Record], place: usize, made: usize) -> usize
     requires { (length table.now ≤ 1600) × (place < length table.now) × (made ≡ length (entries_of table.now (at table.now place) (members_start table.now place))) }
     ensures { result ≡ length (desugared_at table.now place) }
@@ -90,6 +95,7 @@ fn size_at(table: &[Record], place: usize, made: usize) -> usize
 }
 
 // Where the members of the declaration start that the next place stands in; if one stands at `place`, its conditions are stamped.
+#[tactic(auto, using(crate::proofs::Laws::start_few))]
 fn mark_next(table: &[Record], place: usize, members: usize, marks: &mut [u16]) -> usize
     requires { (place < 1600) × (members ≡ members_start table.now place) × ConditionsStamped table.now marks.old members }
     ensures { (result ≡ members_start table.now (place + 1)) × ConditionsStamped table.now marks.new result }
@@ -103,6 +109,7 @@ fn mark_next(table: &[Record], place: usize, members: usize, marks: &mut [u16]) 
 }
 
 // How many records the whole table becomes. The numbers of entries are kept by place, so that writing need not count again.
+#[tactic(auto, using(crate::proofs::Laws::total_laws))]
 pub fn total(table: &[Record], marks: &mut [u16], counts: &mut [u16]) -> usize
     requires { (length table.now ≤ 1600) × (4093 ≤ length marks.old) × (1600 ≤ length counts.old) }
     ensures { (result ≡ length (desugared table.now)) × Counted table.now counts.new (length table.now) }
