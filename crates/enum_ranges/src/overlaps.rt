@@ -27,8 +27,8 @@ pub fn note_overlaps(table: &[Record], places: &[u16], tally: Tally, buffer: &mu
     ensures { log result buffer.new ≡ noted_all (log tally buffer.old) (overlaps table.now places.now) }
 {
     let mut kept = tally;
-    for j in 0..places.len().saturating_sub(1) {
-        kept = faults::notes::note_found(kept, buffer, overlap(table, places[j], places[j + 1]));
+    for pair in places.windows(2) {
+        kept = faults::notes::note_found(kept, buffer, overlap(table, pair[0], pair[1]));
     }
     kept
 }
