@@ -1,22 +1,17 @@
 -- `payload_fields::missing_payload` meets its contract. Assumes nothing.
-use mathlib.Core.Path.{sym, ◌∙◌}
-use Rattle.rules.specs.Choice.{when}
-use Rattle.rules.specs.PayloadFields.{missing_payload}
-use Rattle.payload_fields.proofs.Laws.{none-missing, payload-missing}
+use Rattle.std.proofs.Common.{rules, arith, ℕ, ◌≡◌, ◌%◌, List, [], Bool, true, false, length, get_or}
+use Rattle.rules.specs.Places.{first}
+use Rattle.rules.specs.Table.{at}
+use Rattle.rules.specs.PayloadFields.{child_with_field, missing_payload}
+use Rattle.rules.specs.declared.Record.{Record}
+use Rattle.table.proofs.Searches.{first-nothing}
+use Rattle.payload_fields.specs.Parents.{Parents}
 use Rattle.payload_fields.proofs.missing_payload.Goals as goal
 
-pub returns-then-mark_at-eq0 : goal.returns-then-mark_at-eq0
-returns-then-mark_at-eq0 c =
-    none-missing _ _ c.requires _ _ c.name.ensures (sym c.mark_at.ensures ∙ c.if-mark_at-eq0.true)
-
-pub returns-then-has_member : goal.returns-then-has_member
-returns-then-has_member c = payload-missing _ _ _ (sym c.has_member.ensures ∙ c.if-has_member.true)
-
-pub returns-in_err-child_with_field : goal.returns-in_err-child_with_field
+-- a declaration whose mark is false lacks none
+none-missing : (rs : List Record) (marks : List Bool) (d : ℕ) → Parents rs marks → get_or marks ((at rs d).name % 4093) true ≡ false → [] ≡ missing_payload rs d (first (child_with_field rs d) 0 (length rs))
 unfolding missing_payload
-returns-in_err-child_with_field c = rw (← c.child_with_field.ensures, c.in_err-child_with_field.was, c.from_residual.ensures)
+none-missing rs marks d w m = rw (first-nothing (child_with_field rs d) 0 (length rs) (λ i l. w.none d m i (omega arith)))
 
-pub returns : goal.returns
-unfolding missing_payload when
-returns c =
-    rw (c.single.ensures, c.at.ensures, ← c.child_with_field.ensures, c.in_ok-child_with_field.was, sym c.has_member.ensures ∙ c.if-has_member.false)
+pub returns-then-not-mark_at : goal.returns-then-not-mark_at
+returns-then-not-mark_at c = search (rules, none-missing)
