@@ -4,27 +4,13 @@
 ghost use Rattle.std.specs.Prelude.{◌≡◌, [], ◌∷◌, ◌++◌, ◌+◌, ◌-◌, ◌<◌, ◌≤◌, length};
 ghost use Rattle.rules.specs.Bytes.{written};
 ghost use Rattle.rules.specs.Table.{encode};
-ghost use Rattle.rules.specs.DesugarFlags.{entry_of, entries_from, flag_of, condition_at, entries_at, own_entries, desugared_at, desugared};
+ghost use Rattle.rules.specs.DesugarFlags.{entries_from, flag_of, condition_at, entries_at, own_entries, desugared_at, desugared};
 ghost use Rattle.flag_sizes.specs.Counts.{Counted};
 ghost use Rattle.flag_table.specs.Writing.{WritingAt};
 ghost use Rattle.flag_table.specs.RecordsAppended.{RecordsAppended, RoomForRecords};
 
 use flag_sizes::entries::{Naming, Standing};
 use rules::Record;
-
-// The entry of the condition at `place`.
-fn entry_of(table: &[Record], place: usize) -> Record
-    ensures { result ≡ entry_of table.now place }
-{
-    let field = table::at(table, flag_sizes::conditions::place_before(place));
-    let condition = table::at(table, place);
-    Record {
-        kind: kinds::FLAG_ENTRY,
-        name: field.name,
-        one: condition.one,
-        ..Record::default()
-    }
-}
 
 // `r` as a Flag.
 fn flag_of(r: Record) -> Record
@@ -41,6 +27,7 @@ fn flag_of(r: Record) -> Record
 }
 
 // Writes `r` at place `count`.
+#[tactic(auto, using(crate::proofs::Writing::puts))]
 fn append(out: &mut [u8], count: usize, r: Record) -> usize
     requires { RoomForRecords out.old count (r ∷ []) }
     ensures { RecordsAppended out.old count (r ∷ []) out.new result }
@@ -50,36 +37,39 @@ fn append(out: &mut [u8], count: usize, r: Record) -> usize
 }
 
 // Writes the entries of the conditions that name `flag`, from place `from` to the end of the declaration.
+#[tactic(auto, using(crate::proofs::Writing::puts))]
 fn write_entries(table: &[Record], flag: u16, from: usize, out: &mut [u8], count: usize) -> usize
     requires { RoomForRecords out.old count (entries_from table.now flag from) }
     ensures { RecordsAppended out.old count (entries_from table.now flag from) out.new result }
 {
-    let places = Naming {
+    let entries = Naming {
         table,
         flag,
         place: from,
     };
     let mut n = count;
-    for p in places {
-        n = append(out, n, entry_of(table, p));
+    for entry in entries {
+        n = append(out, n, entry);
     }
     n
 }
 
 // Writes the entries that stand one after another from place `from` on.
+#[tactic(auto, using(crate::proofs::Writing::puts))]
 fn write_own(table: &[Record], from: usize, out: &mut [u8], count: usize) -> usize
     requires { RoomForRecords out.old count (entries_at table.now from (length table.now - from)) }
     ensures { RecordsAppended out.old count (entries_at table.now from (length table.now - from)) out.new result }
 {
-    let places = Standing { table, place: from };
+    let entries = Standing { table, place: from };
     let mut n = count;
-    for p in places {
-        n = append(out, n, table::at(table, p));
+    for entry in entries {
+        n = append(out, n, entry);
     }
     n
 }
 
 // Writes `r` and the condition at `place`, if one stands there.
+#[tactic(auto, using(crate::proofs::Writing::puts), unfolding(rules::specs::DesugarFlags::condition_at, rules::specs::Choice::when))]
 fn write_head(table: &[Record], place: usize, r: Record, out: &mut [u8], count: usize) -> usize
     requires { RoomForRecords out.old count (r ∷ condition_at table.now place) }
     ensures { RecordsAppended out.old count (r ∷ condition_at table.now place) out.new result }
@@ -93,6 +83,7 @@ fn write_head(table: &[Record], place: usize, r: Record, out: &mut [u8], count: 
 }
 
 // Writes `r`, which stands at `place`, as it is, with its condition and the entries that it had.
+#[tactic(auto, using(crate::proofs::Writing::puts))]
 fn write_plain(table: &[Record], place: usize, r: Record, out: &mut [u8], count: usize) -> usize
     requires { (place < 1600) × RoomForRecords out.old count (r ∷ condition_at table.now (place + 1) ++ own_entries table.now place) }
     ensures { RecordsAppended out.old count (r ∷ condition_at table.now (place + 1) ++ own_entries table.now place) out.new result }
@@ -102,6 +93,7 @@ fn write_plain(table: &[Record], place: usize, r: Record, out: &mut [u8], count:
 }
 
 // Writes `r`, which stands at `place`, as a Flag with its condition and the entries made for it.
+#[tactic(auto, using(crate::proofs::Writing::puts))]
 fn write_flag(
     table: &[Record],
     place: usize,
@@ -118,6 +110,7 @@ fn write_flag(
 }
 
 // Writes what the record at `place` becomes.
+#[tactic(auto, using(crate::proofs::Writing::what_becomes))]
 fn write_at(
     table: &[Record],
     counts: &[u16],
@@ -140,6 +133,7 @@ fn write_at(
 }
 
 // Writes the whole table.
+#[tactic(auto, using(crate::proofs::Writing::whole))]
 pub fn write_all(table: &[Record], counts: &[u16], out: &mut [u8])
     requires { (length table.now ≤ 1600) × Counted table.now counts.now (length table.now) × RoomForRecords out.old 0 (desugared table.now) }
     ensures { out.new ≡ written out.old 0 (encode (desugared table.now)) }
