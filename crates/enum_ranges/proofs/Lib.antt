@@ -2,3 +2,4 @@ pub mod Pairs
 pub mod Sorts
 pub mod Stable
 pub mod Laws
+pub mod Ascending

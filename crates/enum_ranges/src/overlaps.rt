@@ -10,6 +10,7 @@ use faults::when;
 use rules::{Fault, Record, Tally, codes};
 
 // 41 at `right` where the ranges at `left` and `right` share a value.
+#[tactic(auto, unfolding(rules::specs::EnumDeclarations::overlap))]
 fn overlap(table: &[Record], left: u16, right: u16) -> Option<Fault>
     ensures { option_to_list result ≡ overlap table.now left right }
 {
