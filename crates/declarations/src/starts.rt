@@ -26,7 +26,7 @@ fn set_start(table: &[Record], place: usize, starts: &mut [u16])
 }
 
 // Fills the starts, which are past every table at first, from the last place to the first.
-fn fill(table: &[Record], starts: &mut [u16])
+pub fn fill(table: &[Record], starts: &mut [u16])
     requires { (length table.now ≤ 1600) × (starts.old ≡ replicate 4093 65535) }
     ensures { Starts table.now starts.new }
 {

@@ -5,7 +5,7 @@ ghost use Rattle.rules.specs.Places.{holds, holds_at};
 use rules::{Record, Target};
 
 // Whether a record is what the search looks for.
-fn holds(target: Target, record: &Record) -> bool
+pub fn holds(target: Target, record: &Record) -> bool
     ensures { result ≡ holds target record.now }
 {
     let k = record.kind;
