@@ -20,7 +20,7 @@ fn loose_at(table: &[Record], place: usize) -> bool
     let condition = table::at(table, place);
     let field = table::kind(table, flag_sizes::conditions::place_before(place));
     let named = kinds::is_named_field(field);
-    let valued = condition.marks & 1 == 1;
+    let valued = condition.marks % 2 == 1;
     !(named & valued)
 }
 
@@ -32,6 +32,7 @@ fn find_loose(table: &[Record]) -> Option<usize>
 }
 
 // The table with flags, which has `count` records, if it is not too long for the reply or for the buffer.
+#[tactic(auto, unfolding(rules::specs::Replies::fitted))]
 fn fitted(table: &[Record], count: usize, counts: &[u16], out: &mut [u8]) -> Reply
     requires { (length table.now ≤ 1600) × (count ≡ length (desugared table.now)) × Counted table.now counts.now (length table.now) }
     ensures { (f : List ℕ) → answered result out.new f ≡ fitted (desugared table.now) out.old f }
@@ -48,6 +49,7 @@ fn fitted(table: &[Record], count: usize, counts: &[u16], out: &mut [u8]) -> Rep
 }
 
 // Makes the flags of an inlined table: the rows from Loose on. Only an accepted table is written.
+#[tactic(auto, unfolding(rules::specs::Replies::by_loose))]
 pub fn desugar_flags(table: &[Record], out: &mut [u8]) -> Reply
     requires { length table.now ≤ 1600 }
     ensures { (f : List ℕ) → answered result out.new f ≡ flagged table.now out.old f }
