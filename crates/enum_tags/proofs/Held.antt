@@ -1,17 +1,13 @@
 -- Laws of the ranges that hold a value: their number, whatever their order. Assumes nothing.
-use Prim.Native.Nat.{ℕ, zero, suc, ◌+◌, ◌<◌, ◌≤◌}
+use Prim.Native.Nat.{ℕ, zero, suc, ◌+◌}
 use mathlib.Core.Path.{◌≡◌, refl, sym, ap, ◌∙◌}
 use mathlib.Core.List.{List, [], ◌∷◌, ◌++◌, append-nil}
 use mathlib.Core.Bool.{Bool, true, false, cond, ◌&&◌}
 use native.Mathlib.Omega.{arith}
-use native.Mathlib.Decide.{dec_lt}
-use native.Mathlib.Nat.{le_refl, add-zero}
+use native.Mathlib.Nat.{add-zero}
 use lib.Dec.{eqb, leb}
-use lib.ListN.{length, get_or, length-map}
 use Rattle.std.specs.Prelude.{if◌then◌else◌}
-use Rattle.std.specs.List.{count_by, zip, AllPairs}
-use Rattle.std.specs.List.Sorted.{IsNonDecreasing}
-use Rattle.std.proofs.lemmas.List.{get_or-map}
+use Rattle.std.specs.List.{count_by, zip}
 use Rattle.std.proofs.lemmas.List.Sums.{sum_by-cons, sum_by-append}
 use Rattle.rules.specs.Choice.{when}
 use Rattle.rules.specs.Table.{at}
@@ -23,7 +19,6 @@ use Rattle.rules.specs.declared.Record.{Record}
 use Rattle.rules.specs.declared.Fault.{Fault}
 use Rattle.table.proofs.Laws.{each_more}
 use Rattle.enum_bounds.specs.Bounds.{holders, lows_of, highs_of, Bounds}
-use Rattle.enum_ranges.proofs.Stable.{before-low, ranges-ordered}
 
 -- a list that is sorted
 module _ (f : ℕ → Bool) (le : ℕ → ℕ → Bool) where
@@ -50,15 +45,6 @@ module _ (f : ℕ → Bool) (le : ℕ → ℕ → Bool) where
   count-sorted xs = count-inserted [] xs ∙ omega arith
 
 module _ (rs : List Record) where
-  lows-in-order : (qs : List ℕ) → AllPairs (λ x y. before_at rs x y ≡ true) qs → IsNonDecreasing (lows_of rs qs)
-  lows-in-order qs o i j d h k = go (dec_lt i j) (omega (arith, length-map qs (λ q. lesser (at rs q))))
-    where
-      go : Dec (i < j) → j < length qs → get_or (lows_of rs qs) i d ≤ get_or (lows_of rs qs) j d
-      go (yes l) m =
-          rw (get_or-map (λ q. lesser (at rs q)) qs i 0 d (omega arith), get_or-map (λ q. lesser (at rs q)) qs j 0 d m)
-          (before-low (at rs (get_or qs i 0)) (at rs (get_or qs j 0)) (o i j 0 l m))
-      go (no l) m = let e : i ≡ j = omega arith in rw e (le_refl _)
-
   holders-at : (v : ℕ) (qs : List ℕ) → holders v (lows_of rs qs) (highs_of rs qs) ≡ count_by (λ q. holding (at rs q) v) qs
   holders-at v [] = refl
   holders-at v (q ∷ qs) =
@@ -85,11 +71,5 @@ module _ (rs : List Record) where
       ∙ ap (λ (xs : List Fault). xs ++ held_at rs p (d + 1 + n)) (times d n p)
 
   module _ (d n : ℕ) (lows highs : List ℕ) (b : Bounds rs d n lows highs) where
-    pub bounds-ordered : IsNonDecreasing lows
-    bounds-ordered = rw b.low (lows-in-order (sorted (before_at rs) (ranges rs d n)) (ranges-ordered rs (ranges rs d n)))
-
-    pub bounds-paired : length lows ≡ length highs
-    bounds-paired = rw (b.low, b.high, length-map, length-map)
-
     pub held_all : (p : ℕ) → each (λ _. single 43 (at rs p) ∷ []) (holders (at rs p).one lows highs) ≡ held rs d n p
     held_all p = rw (b.low, b.high, holders-at (at rs p).one (sorted (before_at rs) (ranges rs d n)), count-sorted (λ q. holding (at rs q) (at rs p).one) (before_at rs) (ranges rs d n)) (times d n p)

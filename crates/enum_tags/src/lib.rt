@@ -26,8 +26,8 @@ use rules::{Fault, Record, Tally, Target, codes};
 #[derive(Clone, Copy)]
 pub struct MarkedTags<'a> {
     pub table: &'a [Record],
-    pub names: &'a [u8],
-    pub values: &'a [u8],
+    pub names: &'a [bool],
+    pub values: &'a [bool],
     pub ghost names_marked: { Marked table.now TagNames names.now } by { Prim.hlevel props },
     pub ghost values_marked: { Marked table.now TagValues values.now } by { Prim.hlevel props },
 }
