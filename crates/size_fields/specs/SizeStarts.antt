@@ -1,5 +1,5 @@
 -- Where the search for what a Size, Count or ElementSize names may start.
-use Rattle.std.specs.Prelude.{ℕ, ◌+◌, ◌%◌, ◌<◌, ◌≤◌, ◌≡◌, List, true, false, length, get_or, ltb, if◌then◌else◌}
+use Rattle.std.specs.Prelude.{ℕ, ◌%◌, ◌<◌, ◌≤◌, ◌≡◌, List, false, length, get_or, ltb, if◌then◌else◌}
 use Rattle.rules.specs.Kinds as kind
 use Rattle.rules.specs.Kinds.{is, is_decl}
 use Rattle.rules.specs.Table.{at, payload_name, body_name}
@@ -31,20 +31,3 @@ pub record KeptPlaces (rs : List Record) (last : List ℕ) (e k : ℕ) : Type 0 
   pub entries : (h : ℕ) → k ≤ get_or last h 65535
   pub members : (i : ℕ) → k ≤ i → i < e → is_decl (at rs i).kind ≡ false
   pub ends : (k ≤ e) × (e ≤ length rs)
-
--- the arrays are long enough, and the starts that are known are right
-abbrev pub Filling : List Record → List ℕ → List ℕ → Type 0
-Filling rs last starts = (4093 ≤ length last) × (1600 ≤ length starts) × SizeStarts rs starts
-
--- what is asked where the start for the record at q is set: the search from it finds what the record names
-abbrev pub SettingStart : List Record → ℕ → ℕ → List ℕ → List ℕ → Type 0
-SettingStart rs q e last starts =
-    (q < 1600) × (e ≤ 1600) × (first_within rs (target_at rs q) q ≡ first_from rs (target_at rs q) (start_for last e (at rs q).second)) × Filling rs last starts
-
--- what is asked where the starts for the sizes of the declaration at d are set, of which the next stands at e
-abbrev pub SettingStarts : List Record → ℕ → ℕ → List ℕ → List ℕ → Type 0
-SettingStarts rs d e last starts = (length rs ≤ 1600) × (is_decl (at rs d).kind ≡ true) × KeptPlaces rs last e (d + 1) × Filling rs last starts
-
--- what is asked where the place p is added to the places kept
-abbrev pub Stepping : List Record → ℕ → ℕ → List ℕ → List ℕ → Type 0
-Stepping rs p e last starts = (p < length rs) × (length rs ≤ 1600) × KeptPlaces rs last e (p + 1) × Filling rs last starts

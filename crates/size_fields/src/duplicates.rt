@@ -23,7 +23,13 @@ pub(crate) fn size_code(kind: u8) -> u16
 }
 
 // First a repeat: 23, 26, 29. Size and Count share one map, and ElementSize has its own.
-pub fn size_again(table: &[Record], sizes: &[u8], elements: &[u8], place: usize) -> Option<Fault>
+#[tactic(auto, unfolding(rules::specs::SizeFields::size_again, rules::specs::EnumDeclarations::again))]
+pub fn size_again(
+    table: &[Record],
+    sizes: &[bool],
+    elements: &[bool],
+    place: usize,
+) -> Option<Fault>
     requires { Marked table.now Sizes sizes.now × Marked table.now ElementSizes elements.now }
     ensures { option_to_list result ≡ size_again table.now place }
 {

@@ -1,24 +1,24 @@
 // Where pass 5's search for what a Size, Count or ElementSize names may start, so that few records are looked at.
-ghost use Rattle.std.specs.Prelude.{◌≡◌, ◌≤◌, length};
+ghost use Rattle.std.specs.Prelude.{◌≡◌, ◌+◌, ◌<◌, ◌≤◌, true, IfSome, length};
+ghost use Rattle.rules.specs.Kinds.{is_decl};
 ghost use Rattle.rules.specs.Table.{at};
-ghost use Rattle.size_fields.specs.SizeStarts.{SizeStarts, name_of, start_for, KeptPlaces, SettingStart, SettingStarts, Stepping};
+ghost use Rattle.size_fields.specs.SizeStarts.{SizeStarts, name_of, start_for, KeptPlaces};
 
+use declarations::starts::is_large;
 use kinds::{is_decl, is_size};
 use rules::Record;
+use rules::limits::MOST_RECORDS;
 use table::{BODY_NAME, DIVISOR, NO_PLACE, PAYLOAD_NAME, REMAINDERS};
 
-// The only name by which a size can mean the record at `place`.
-fn name_of(table: &[Record], place: usize) -> u16
-    ensures { result ≡ name_of (at table.now place) }
+// The only name by which a size can mean the record.
+fn name_of(r: &Record) -> u16
+    ensures { result ≡ name_of r.now }
 {
-    let k = table::kind(table, place);
-    if k == kinds::PAYLOAD {
-        return PAYLOAD_NAME;
+    match r.kind {
+        kinds::PAYLOAD => PAYLOAD_NAME,
+        kinds::BODY => BODY_NAME,
+        _ => r.name,
     }
-    if k == kinds::BODY {
-        return BODY_NAME;
-    }
-    table::at(table, place).name
 }
 
 // The places kept for the searches from a place on: by the remainder of a name the first that it may mean, and the next declaration.
@@ -31,49 +31,41 @@ struct Kept {
 impl Kept {
     // The start for a name.
     fn start_for(&self, name: u16) -> u16
-        requires { (4093 ≤ length self.now.last) × (self.now.end ≤ 1600) }
+        requires { self.now.end ≤ 1600 }
         ensures { result ≡ start_for self.now.last self.now.end name }
     {
         self.last[usize::from(name % DIVISOR)].min(self.end as u16)
     }
 
-    // The start for the record at `place`, if it is a size.
-    fn set_start(&self, table: &[Record], place: usize, starts: &mut [u16])
-        requires { SettingStart table.now place self.now.end self.now.last starts.old }
-        ensures { SizeStarts table.now starts.new }
-    {
-        if is_size(table::kind(table, place)) {
-            starts[place] = self.start_for(table::at(table, place).second);
-        }
-    }
-
     // The starts for the sizes of the declaration at `decl`, up to the next one.
-    fn set_starts(&self, table: &[Record], decl: usize, starts: &mut [u16])
-        requires { SettingStarts table.now decl self.now.end self.now.last starts.old }
+    fn set_starts(&self, table: &[Record], decl: usize, starts: &mut [u16; MOST_RECORDS])
+        requires { (length table.now ≤ 1600) × (is_decl (at table.now decl).kind ≡ true) × KeptPlaces table.now self.now.last self.now.end (decl + 1) × SizeStarts table.now starts.old }
         ensures { SizeStarts table.now starts.new }
     {
         for q in decl + 1..self.end {
-            self.set_start(table, q, starts);
+            if is_size(table[q].kind) {
+                starts[q] = self.start_for(table[q].second);
+            }
         }
     }
 
     // One place more.
-    fn step(&mut self, table: &[Record], place: usize, starts: &mut [u16])
-        requires { Stepping table.now place self.old.end self.old.last starts.old }
-        ensures { SizeStarts table.now starts.new × KeptPlaces table.now self.new.last self.new.end place × (4093 ≤ length self.new.last) }
+    fn step(&mut self, table: &[Record], place: usize, starts: &mut [u16; MOST_RECORDS])
+        requires { (place < length table.now) × (length table.now ≤ 1600) × KeptPlaces table.now self.old.last self.old.end (place + 1) × SizeStarts table.now starts.old }
+        ensures { SizeStarts table.now starts.new × KeptPlaces table.now self.new.last self.new.end place }
     {
-        if is_decl(table::kind(table, place)) {
+        if is_decl(table[place].kind) {
             self.set_starts(table, place, starts);
             self.end = place;
         } else {
-            self.last[usize::from(name_of(table, place) % DIVISOR)] = place as u16;
+            self.last[usize::from(name_of(&table[place]) % DIVISOR)] = place as u16;
         }
     }
 }
 
 // Fills `starts`, in which no start is known at first: all places of the table, from the last to the first.
-pub fn fill(table: &[Record], starts: &mut [u16])
-    requires { (length table.now ≤ 1600) × (1600 ≤ length starts.old) × SizeStarts table.now starts.old }
+fn fill(table: &[Record], starts: &mut [u16; MOST_RECORDS])
+    requires { (length table.now ≤ 1600) × SizeStarts table.now starts.old }
     ensures { SizeStarts table.now starts.new }
 {
     let n = table.len();
@@ -81,7 +73,19 @@ pub fn fill(table: &[Record], starts: &mut [u16])
         last: [NO_PLACE; REMAINDERS],
         end: n,
     };
-    for p in (0..n).rev() {
-        kept.step(table, p, starts);
+    for place in (0..n).rev() {
+        kept.step(table, place, starts);
     }
+}
+
+// The starts, where the table is so large that they spare time.
+pub fn known(table: &[Record]) -> Option<[u16; MOST_RECORDS]>
+    ensures { IfSome result (λ starts. SizeStarts table.now starts) }
+{
+    if !is_large(table) {
+        return None;
+    }
+    let mut starts = [NO_PLACE; MOST_RECORDS];
+    fill(table, &mut starts);
+    Some(starts)
 }

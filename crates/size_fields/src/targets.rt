@@ -6,6 +6,7 @@ ghost use Rattle.size_fields.specs.SizeStarts.{SizeStarts};
 
 use crate::duplicates::size_code;
 use crate::matches::first_match;
+use faults::when;
 use kinds::is_size;
 use rules::{Fault, Record, Target, codes};
 
@@ -31,28 +32,24 @@ const MISSING: u16 = codes::UNDECLARED_SIZE_IDENTIFIER - codes::DUPLICATE_SIZE_F
 const NO_ARRAY: u16 = codes::INVALID_SIZE_IDENTIFIER - codes::DUPLICATE_SIZE_FIELD;
 
 // Missing, or the first match no array.
+#[tactic(auto, unfolding(rules::specs::SizeFields::misnamed, rules::specs::Places::found_inside, rules::specs::Choice::when))]
 fn misnamed(code: u16, table: &[Record], place: usize, found: Option<usize>) -> Option<Fault>
     requires { code + 2 < 65536 }
     ensures { option_to_list result ≡ misnamed code table.now place found }
 {
     let r = table::at(table, place);
-    match found {
-        Some(q) => {
-            let s = table::at(table, q);
-            let k = s.kind;
-            if kinds::is_decl(k) {
-                return Some(faults::fault::single(code + MISSING, r));
-            }
-            if is_sized(k) {
-                return None;
-            }
-            Some(faults::fault::double(code + NO_ARRAY, r, s))
-        }
-        None => Some(faults::fault::single(code + MISSING, r)),
-    }
+    let Some(q) = search::members::inside(table, found) else {
+        return Some(faults::fault::single(code + MISSING, r));
+    };
+    let s = table::at(table, q);
+    when(
+        !is_sized(s.kind),
+        faults::fault::double(code + NO_ARRAY, r, s),
+    )
 }
 
 // Then missing 24, 27, 30, or no array 25, 28, 31.
+#[tactic(auto, unfolding(rules::specs::SizeFields::size_target))]
 pub fn size_target(table: &[Record], starts: &[u16], place: usize) -> Option<Fault>
     requires { SizeStarts table.now starts.now }
     ensures { option_to_list result ≡ size_target table.now place }

@@ -1,11 +1,15 @@
 -- `size_fields::starts::Kept::set_starts` meets its contract: the starts that are known are right. Assumes nothing.
-use native.Mathlib.Omega.{arith}
-use Rattle.size_fields.proofs.starts.Laws.{later-within}
+use Rattle.std.proofs.Common.{rules, arith}
+use Rattle.rules.specs.Table.{at}
+use Rattle.size_fields.proofs.starts.Laws.{starts-one, kept-within}
 use Rattle.size_fields.proofs.starts.Kept.set_starts.Goals as goal
+use Rattle.size_fields.proofs.starts.Kept.set_starts.Goals.{then-is_size, else-is_size}
 
-pub set_start-requires : goal.set_start-requires
-set_start-requires c =
-    let h = c.loop-q-test.true in
-    let w = c.requires.2 in
-    let r = later-within _ _ _ _ _ w c.requires.1 (omega arith) h in
-    (omega (arith, h, c.requires.0, w.ends), omega (arith, c.requires.0, w.ends), r, (c.requires.3.0, omega arith, c.loop-q.invariant))
+pub loop-q-preserved : goal.loop-q-preserved
+unfolding at
+loop-q-preserved c =
+    elim c.if-is_size.branch [
+      | then-is_size w ↦ rw (w.starts-is, w.start_for.ensures)
+          (starts-one _ _ _ _ (search rules) c.loop-q.invariant (kept-within _ _ _ c.args.decl _ c.requires.2 c.requires.1 (omega arith) c.loop-q-test.true))
+      | else-is_size w ↦ rw w.starts-is c.loop-q.invariant
+    ]
