@@ -1,20 +1,20 @@
 -- Laws of the ranges that hold a value: their number, whatever their order. Assumes nothing.
 use Prim.Native.Nat.{ℕ, zero, suc, ◌+◌}
-use mathlib.Core.Path.{◌≡◌, refl, sym, ap, ◌∙◌}
+use mathlib.Core.Path.{◌≡◌, refl, ap, ◌∙◌}
 use mathlib.Core.List.{List, [], ◌∷◌, ◌++◌, append-nil}
-use mathlib.Core.Bool.{Bool, true, false, cond, ◌&&◌}
+use mathlib.Core.Bool.{Bool, true, false, cond}
 use native.Mathlib.Omega.{arith}
+use Rattle.std.proofs.lemmas.Grind.{common_steps}
 use native.Mathlib.Nat.{add-zero}
-use lib.Dec.{eqb, leb}
-use Rattle.std.specs.Prelude.{if◌then◌else◌}
-use Rattle.std.specs.List.{count_by, zip}
+use lib.Dec.{eqb}
+use Rattle.std.specs.List.{count_by}
 use Rattle.std.proofs.lemmas.List.Sums.{sum_by-cons, sum_by-append}
 use Rattle.rules.specs.Choice.{when}
 use Rattle.rules.specs.Table.{at}
 use Rattle.rules.specs.Places.{each}
 use Rattle.rules.specs.Faults.{single}
 use Rattle.rules.specs.Sorts.{insert, inserted, sorted}
-use Rattle.rules.specs.EnumDeclarations.{lesser, greater, holding, held_at, held, range_at, ranges, before_at}
+use Rattle.rules.specs.EnumDeclarations.{holding, held_at, held, range_at, ranges, before_at}
 use Rattle.rules.specs.declared.Record.{Record}
 use Rattle.rules.specs.declared.Fault.{Fault}
 use Rattle.table.proofs.Laws.{each_more}
@@ -22,23 +22,15 @@ use Rattle.enum_bounds.specs.Bounds.{holders, lows_of, highs_of, Bounds}
 
 -- a list that is sorted
 module _ (f : ℕ → Bool) (le : ℕ → ℕ → Bool) where
-  count-cons : (x : ℕ) (xs : List ℕ) → count_by f (x ∷ xs) ≡ cond (f x) 1 0 + count_by f xs
-  count-cons x xs = sum_by-cons (λ z. cond (f z) 1 0) x xs
-
   count-insert : (x : ℕ) (ys : List ℕ) → count_by f (insert le x ys) ≡ cond (f x) 1 0 + count_by f ys
   unfolding insert
-  count-insert x [] = count-cons x []
-  count-insert x (y ∷ ys) = go (le y x) (count-insert x ys)
-    where
-      go : (b : Bool) → count_by f (insert le x ys) ≡ cond (f x) 1 0 + count_by f ys
-          → count_by f (if b then y ∷ insert le x ys else x ∷ y ∷ ys) ≡ cond (f x) 1 0 + count_by f (y ∷ ys)
-      go true e = omega (arith, count-cons y (insert le x ys), count-cons y ys)
-      go false e = count-cons x (y ∷ ys)
+  count-insert x [] = grind (arith, common_steps, sum_by-cons)
+  count-insert x (y ∷ ys) = let e = count-insert x ys in grind (arith, common_steps, sum_by-cons)
 
   count-inserted : (ys xs : List ℕ) → count_by f (inserted le ys xs) ≡ count_by f ys + count_by f xs
   unfolding inserted
   count-inserted ys [] = omega arith
-  count-inserted ys (x ∷ xs) = count-inserted (insert le x ys) xs ∙ omega (arith, count-insert x ys, count-cons x xs)
+  count-inserted ys (x ∷ xs) = let e = count-inserted (insert le x ys) xs in let i = count-insert x ys in grind (arith, common_steps, sum_by-cons)
 
   count-sorted : (xs : List ℕ) → count_by f (sorted le xs) ≡ count_by f xs
   unfolding sorted
@@ -47,10 +39,7 @@ module _ (f : ℕ → Bool) (le : ℕ → ℕ → Bool) where
 module _ (rs : List Record) where
   holders-at : (v : ℕ) (qs : List ℕ) → holders v (lows_of rs qs) (highs_of rs qs) ≡ count_by (λ q. holding (at rs q) v) qs
   holders-at v [] = refl
-  holders-at v (q ∷ qs) =
-      sum_by-cons (λ b. cond (leb b.0 v && leb v b.1) 1 0) (lesser (at rs q), greater (at rs q)) (zip (lows_of rs qs) (highs_of rs qs))
-      ∙ ap (λ (n : ℕ). cond (holding (at rs q) v) 1 0 + n) (holders-at v qs)
-      ∙ sym (sum_by-cons (λ q. cond (holding (at rs q) v) 1 0) q qs)
+  holders-at v (q ∷ qs) = let e = holders-at v qs in grind (arith, common_steps, sum_by-cons)
 
   -- as many faults as there are ranges that hold the value
   times_more : (p q c : ℕ) (b w : Bool) → eqb (at rs q).kind 41 ≡ b → holding (at rs q) (at rs p).one ≡ w

@@ -44,6 +44,7 @@ pub struct EnumTags<'a, 'b> {
 }
 
 // The range that a search found.
+#[tactic(auto, unfolding(rules::specs::EnumDeclarations::range_found))]
 fn range_found(table: &[Record], found: Option<usize>) -> Record
     ensures { result ≡ range_found table.now found }
 {
@@ -83,6 +84,7 @@ fn name_again(marked: &MarkedTags, place: usize) -> Option<Fault>
 }
 
 // A value within bounds: 12, 13, 14.
+#[tactic(auto, unfolding(rules::specs::EnumDeclarations::value_faults))]
 fn note_value(
     marked: &MarkedTags,
     low: u64,
@@ -134,6 +136,7 @@ fn note_held(tags: &EnumTags, place: usize, tally: Tally, buffer: &mut [u8]) -> 
 }
 
 // A range: 12, 40, 40.
+#[tactic(auto, unfolding(rules::specs::EnumDeclarations::range_faults))]
 fn note_range(
     marked: &MarkedTags,
     most: u64,
@@ -155,6 +158,7 @@ fn note_range(
 }
 
 // A default tag: 12, 44.
+#[tactic(auto, unfolding(rules::specs::EnumDeclarations::default_faults))]
 fn note_default(marked: &MarkedTags, place: usize, tally: Tally, buffer: &mut [u8]) -> Tally
     requires { tally.total + 4 < 2 ^ 64 }
     ensures { log result buffer.new ≡ noted_all (log tally buffer.old) (default_faults marked.now.table.now place) }
@@ -170,6 +174,7 @@ fn note_default(marked: &MarkedTags, place: usize, tally: Tally, buffer: &mut [u
 }
 
 // A value in a range, against the range: no 43. No range stands from `after` up to `place`.
+#[tactic(auto, unfolding(rules::specs::EnumDeclarations::inner_faults))]
 fn note_inner(
     marked: &MarkedTags,
     after: usize,
@@ -188,6 +193,7 @@ fn note_inner(
 }
 
 // Where no range stands from `after` up to `place`, the same for the next place.
+#[tactic(auto, unfolding(rules::specs::Places::nearest))]
 pub fn after_range(table: &[Record], after: usize, place: usize) -> usize
     requires { (place < 1600) × (range_before table.now place ≡ range_before table.now after) }
     ensures { range_before table.now (place + 1) ≡ range_before table.now result }
@@ -199,6 +205,7 @@ pub fn after_range(table: &[Record], after: usize, place: usize) -> usize
 }
 
 // The tag at `place` of an enum. No range stands from `after` up to `place`.
+#[tactic(auto, unfolding(rules::specs::EnumDeclarations::tag_faults))]
 pub fn note_tag(
     tags: &EnumTags,
     after: usize,
