@@ -1,12 +1,10 @@
 -- Laws of the ranges that hold a value: their number, whatever their order. Assumes nothing.
 use Prim.Native.Nat.{ℕ, zero, suc, ◌+◌}
 use mathlib.Core.Path.{◌≡◌, refl, ap, ◌∙◌}
-use mathlib.Core.List.{List, [], ◌∷◌, ◌++◌, append-nil}
-use mathlib.Core.Bool.{Bool, true, false, cond}
+use mathlib.Core.List.{List, [], ◌∷◌, ◌++◌}
+use mathlib.Core.Bool.{Bool, cond}
 use native.Mathlib.Omega.{arith}
 use Rattle.std.proofs.lemmas.Grind.{common_steps}
-use native.Mathlib.Nat.{add-zero}
-use lib.Dec.{eqb}
 use Rattle.std.specs.List.{count_by}
 use Rattle.std.proofs.lemmas.List.Sums.{sum_by-cons, sum_by-append}
 use Rattle.rules.specs.Choice.{when}
@@ -42,13 +40,10 @@ module _ (rs : List Record) where
   holders-at v (q ∷ qs) = let e = holders-at v qs in grind (arith, common_steps, sum_by-cons)
 
   -- as many faults as there are ranges that hold the value
-  times_more : (p q c : ℕ) (b w : Bool) → eqb (at rs q).kind 41 ≡ b → holding (at rs q) (at rs p).one ≡ w
-      → each (λ _. single 43 (at rs p) ∷ []) (c + count_by (λ q. holding (at rs q) (at rs p).one) (range_at rs q))
+  times_more : (p q c : ℕ) → each (λ _. single 43 (at rs p) ∷ []) (c + count_by (λ q. holding (at rs q) (at rs p).one) (range_at rs q))
       ≡ each (λ _. single 43 (at rs p) ∷ []) c ++ held_at rs p q
   unfolding held_at when
-  times_more p q c true true e g = rw (e, g) (each_more _ c)
-  times_more p q c true false e g = rw (e, g, add-zero, append-nil)
-  times_more p q c false w e g = rw (e, add-zero, append-nil)
+  times_more p q c = let m = each_more (λ _. single 43 (at rs p) ∷ []) c in grind (arith, common_steps, sum_by-cons)
 
   times : (d n p : ℕ) → each (λ _. single 43 (at rs p) ∷ []) (count_by (λ q. holding (at rs q) (at rs p).one) (ranges rs d n)) ≡ held rs d n p
   unfolding ranges held each
@@ -56,7 +51,7 @@ module _ (rs : List Record) where
   times d (suc n) p =
       ap (each (λ _. single 43 (at rs p) ∷ []))
       (sum_by-append (λ q. cond (holding (at rs q) (at rs p).one) 1 0) (each (λ i. range_at rs (d + 1 + i)) n) (range_at rs (d + 1 + n)))
-      ∙ times_more p (d + 1 + n) _ _ _ refl refl
+      ∙ times_more p (d + 1 + n) _
       ∙ ap (λ (xs : List Fault). xs ++ held_at rs p (d + 1 + n)) (times d n p)
 
   module _ (d n : ℕ) (lows highs : List ℕ) (b : Bounds rs d n lows highs) where
