@@ -2,10 +2,10 @@
 -- Assumes nothing.
 use Rattle.std.proofs.Common.{Option, Some, ℕ}
 use Prim.Native.Nat.{ℕ, ◌+◌, ◌<◌, ◌≤◌}
-use mathlib.Core.Path.{◌≡◌, sym, ◌∙◌}
+use mathlib.Core.Path.{◌≡◌, sym}
 use mathlib.Core.List.{List}
 use mathlib.Core.Bool.{Bool, true, false, ◌&&◌, ◌||◌}
-use mathlib.Core.Logic.{◌⊎◌, inl, inr}
+use mathlib.Core.Logic.{inl, inr}
 use native.Mathlib.Omega.{arith}
 use native.Mathlib.Numerals.{add-one}
 use borrow.Author.Tests.{ne_eqb, leb-true}
@@ -19,6 +19,7 @@ use Rattle.rules.specs.declared.Record.{Record}
 use Rattle.rules.specs.declared.Target.TheVariants.{Decl}
 use Rattle.table.proofs.Searches.{and-true}
 use Rattle.table.proofs.Laws.{left-suc, left-none}
+use Rattle.group_sizes.specs.Members.{Ends}
 use Rattle.group_sizes.specs.Sizes.{size_at, fields_size, size_from}
 
 decl-below : (k : ℕ) → is_decl k ≡ true → k ≤ 7
@@ -51,31 +52,7 @@ module _ (rs : List Record) where
   unfolding fields_size
   size-next p l o targets sizes = rw (left-suc (length rs) p l, fields_size, o)
 
-  -- they end at the next declaration, or with the table
-  abbrev pub Ends : ℕ → Type 0
-  Ends p = ((p < length rs) × (is_decl (at rs p).kind ≡ true)) ⊎ (length rs ≤ p)
-
-  pub size-end : (p : ℕ) → Ends p → (targets sizes : List ℕ) → size_from targets sizes rs p ≡ 0
+  pub size-end : (p : ℕ) → Ends rs p → (targets sizes : List ℕ) → size_from targets sizes rs p ≡ 0
   unfolding fields_size
   size-end p (inl h) targets sizes = rw (left-suc (length rs) p h.0, fields_size, h.1)
   size-end p (inr h) targets sizes = rw (left-none (length rs) p h, fields_size)
-
--- ---- what a turn has read of the record at p, which is no declaration: its kind k, and c: it is a constraint or a condition
-pub record Seen (rs : List Record) (p k : ℕ) (c : Bool) : Type 0 where
-  pub below : p < length rs
-  pub inside : is_decl (at rs p).kind ≡ false
-  pub is-kind : k ≡ (at rs p).kind
-  pub is_bound : c ≡ is_constraint_or_condition (at rs p).kind
-
-module _ {rs : List Record} {p k : ℕ} {c : Bool} (h : Seen rs p k c) where
-  pub seen-flag : (after : Bool) → (eqb k 34 || (c && after)) ≡ (eqb (at rs p).kind 34 || (is_constraint_or_condition (at rs p).kind && after))
-  seen-flag after = rw (h.is-kind, h.is_bound)
-
-  pub seen-group : k ≡ 34 → (at rs p).kind ≡ 34
-  seen-group e = sym h.is-kind ∙ e
-
-  pub seen_other : ¬ (k ≡ 34) → ¬ ((at rs p).kind ≡ 34)
-  seen_other n e = n (h.is-kind ∙ e)
-
-  pub seen-bound : (after b : Bool) → (c && after) ≡ b → (is_constraint_or_condition (at rs p).kind && after) ≡ b
-  seen-bound after b e = rw h.is_bound at e

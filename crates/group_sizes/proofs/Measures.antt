@@ -3,7 +3,7 @@ use Rattle.std.proofs.Common.{Some}
 use Prim.Native.Nat.{ℕ, zero, suc, ◌+◌, ◌-◌, ◌*◌, ◌<◌, ◌≤◌, min}
 use mathlib.Core.Path.{◌≡◌, refl, sym, ap, ◌∙◌}
 use mathlib.Core.List.{List}
-use mathlib.Core.Bool.{Bool, true, false, ◌&&◌, ◌||◌}
+use mathlib.Core.Bool.{Bool, true, false}
 use native.Mathlib.Omega.{arith}
 use native.Mathlib.Numerals.{add-one}
 use native.Mathlib.Decide.{dec_lt}
@@ -14,48 +14,45 @@ use lib.Seq.{get_or-set_same, get_or-set_other}
 use Rattle.rules.specs.Table.{at}
 use Rattle.rules.specs.Places.{nearest, holds_at}
 use Rattle.rules.specs.Kinds.{is_decl}
-use Rattle.rules.specs.InlineGroups.{is_kept, after_group}
+use Rattle.rules.specs.InlineGroups.{is_kept}
 use Rattle.rules.specs.declared.Record.{Record}
 use Rattle.rules.specs.declared.Target.TheVariants.{Decl}
 use Rattle.group_sizes.specs.GroupsFirst.{GroupsFirst}
+use Rattle.group_sizes.specs.Members.{MemberIn, Ends}
+use Rattle.group_sizes.specs.declared.members.Member.{Member}
 use Rattle.group_sizes.specs.Targets.{TargetsKnown}
 use Rattle.group_sizes.specs.Sizes.{size_here, size_at, fields_size, size_from, total_size, Sized}
 use Rattle.table.proofs.Searches.{false-true}
-use Rattle.group_sizes.proofs.targets.Known.{named_in, group-before}
-use Rattle.group_sizes.proofs.Fields.{here-start, here-next, after-start, after_next, size-next, size-end, Ends, Seen, seen-flag}
+use Rattle.group_sizes.proofs.Known.{named_in, group-before}
+use Rattle.group_sizes.proofs.Fields.{here-start, here-next, size-next, size-end}
 
 -- ---- the size of one declaration: what is counted and what is left make the whole
 
-pub record Sizing (rs : List Record) (targets sizes : List ℕ) (d s : ℕ) (after : Bool) (p : ℕ) : Type 0 where
-  pub flag : after ≡ after_group rs p
+pub record Sizing (rs : List Record) (targets sizes : List ℕ) (d s p : ℕ) : Type 0 where
   pub so_far : s + size_from targets sizes rs p ≡ size_from targets sizes rs (d + 1)
   pub small : s ≤ 65535 * p
 
-pub sizing-start : (rs : List Record) (targets sizes : List ℕ) (d : ℕ) → is_decl (at rs d).kind ≡ true → Sizing rs targets sizes d 0 false (d + 1)
-sizing-start rs targets sizes d i = record { flag = after-start rs d i; so_far = omega arith; small = omega arith }
+pub sizing-start : (rs : List Record) (targets sizes : List ℕ) (d : ℕ) → Sizing rs targets sizes d 0 (d + 1)
+sizing-start rs targets sizes d = record { so_far = omega arith; small = omega arith }
 
 -- the group of a field has a size
-pub target-in : {rs : List Record} {targets : List ℕ} (sizes : List ℕ) {p k : ℕ} {c : Bool} → TargetsKnown rs targets (length rs) → length rs ≤ length sizes → Seen rs p k c → k ≡ 34 → get_or targets p 0 < length sizes
-target-in {rs} sizes {p} r l h e =
-    let m = named_in rs (at rs p).second (r.right p h.below (eq-eqb _ _ (sym h.is-kind ∙ e))) in
+pub target-in : {rs : List Record} {targets : List ℕ} (sizes : List ℕ) {m : Member} → TargetsKnown rs targets (length rs) → length rs ≤ length sizes → MemberIn rs m → m.kind ≡ 34 → get_or targets m.place 0 < length sizes
+target-in {rs} sizes {m} r l h e =
+    let n = named_in rs (at rs m.place).second (r.right m.place h.below (eq-eqb _ _ (sym h.kind ∙ e))) in
     omega arith
 
-module _ {rs : List Record} {targets sizes : List ℕ} {d s : ℕ} {after : Bool} {p : ℕ} (w : Sizing rs targets sizes d s after p) where
-  pub sizing-end : Ends rs p → s ≡ size_from targets sizes rs (d + 1)
-  sizing-end e = let h = w.so_far in let z = size-end rs p e targets sizes in omega arith
+module _ {rs : List Record} {targets sizes : List ℕ} {d s : ℕ} where
+  pub sizing-end : {p : ℕ} → Sizing rs targets sizes d s p → Ends rs p → s ≡ size_from targets sizes rs (d + 1)
+  sizing-end {p} w e = let h = w.so_far in let z = size-end rs p e targets sizes in omega arith
 
-  module _ {k : ℕ} {c : Bool} (h : Seen rs p k c) where
-    here-size : {x : ℕ} → x ≡ size_here targets sizes k p (c && after) → x ≡ size_at targets sizes rs p
-    unfolding size_at
-    here-size e = e ∙ rw (h.is-kind, h.is_bound, w.flag)
-
-    pub sizing-next : {x : ℕ} → x < 65536 → x ≡ size_here targets sizes k p (c && after) → Sizing rs targets sizes d (s + x) (eqb k 34 || (c && after)) (p + 1)
-    sizing-next l e =
-        let q = here-size e in
-        let z = size-next rs p h.below h.inside targets sizes in
-        let v = w.so_far in
-        let u = w.small in
-        record { flag = seen-flag h after ∙ after_next rs p w.flag; so_far = omega arith; small = omega arith }
+  pub sizing-next : {m : Member} {x : ℕ} → Sizing rs targets sizes d s m.place → MemberIn rs m → x ≡ size_here targets sizes m.kind m.place m.bound → x ≤ 65535 → Sizing rs targets sizes d (s + x) (m.place + 1)
+  unfolding size_at
+  sizing-next {m} {x} w h e l =
+      let q : x ≡ size_at targets sizes rs m.place = e ∙ rw (h.kind, h.bound) in
+      let z = size-next rs m.place h.below h.inside targets sizes in
+      let v = w.so_far in
+      let u = w.small in
+      record { so_far = omega arith; small = omega arith }
 
 -- ---- a size that is stored changes none that it is counted from
 

@@ -1,5 +1,5 @@
 -- In the listed table every group stands before the declaration that holds a field of it.
-use Rattle.std.specs.Prelude.{◌≡◌, true, List, ℕ, ◌<◌, length, None, Option, Some}
+use Rattle.std.specs.Prelude.{◌≡◌, true, List, ℕ, ◌<◌, length, Option, MatchOption}
 use Rattle.rules.specs.Kinds as kind
 use Rattle.rules.specs.Kinds.{is}
 use Rattle.rules.specs.Table.{at}
@@ -9,9 +9,7 @@ use Rattle.rules.specs.declared.Target.TheVariants.{Decl}
 
 -- both searches find something, the first at a lower place
 abbrev pub FoundBefore : Option ℕ → Option ℕ → Type 0
-FoundBefore (Some g) (Some d) = g < d
-FoundBefore (Some g) None = ⊥
-FoundBefore None d = ⊥
+FoundBefore f h = MatchOption f ⊥ (λ g. MatchOption h ⊥ (λ d. g < d))
 
 abbrev pub GroupsFirst : List Record → Type 0
 GroupsFirst rs =

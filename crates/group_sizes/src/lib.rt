@@ -1,27 +1,69 @@
-// The sizes of declarations once their groups are inlined, by place.
+// The groups of a table: the declarations that its group fields name, and the sizes of declarations once their groups are inlined.
 #![tactic(auto)]
 
-pub mod targets;
+pub mod members;
+mod targets;
 
 ghost use Rattle.std.specs.Prelude.{◌≡◌, ◌+◌, ◌<◌, ◌≤◌, min, length, get_or};
 ghost use Rattle.rules.specs.Kinds.{group_field};
 ghost use Rattle.group_sizes.specs.GroupsFirst.{GroupsFirst};
 ghost use Rattle.group_sizes.specs.Targets.{TargetsKnown};
-ghost use Rattle.group_sizes.specs.Sizes.{size_here, size_from, SizingAfter, Sized, total_size};
+ghost use Rattle.group_sizes.specs.Sizes.{size_here, size_from, SizingAfter, Sized, Measured, total_size};
+ghost use Rattle.std.proofs.Props.{props};
 
-use kinds::{is_constraint_or_condition, is_kept};
+use kinds::is_kept;
+use members::{Member, Members};
 use rules::Record;
 use rules::limits::MOST_RECORDS;
 
-// How many records the record of `kind` at `place` becomes; `bound`: it belongs to a group field.
-fn size_here(targets: &[u16], sizes: &[u16], kind: u8, place: usize, bound: bool) -> u16
-    requires { (place < length targets.now) × (kind ≡ group_field → get_or targets.now place 0 < length sizes.now) }
-    ensures { result ≡ size_here targets.now sizes.now kind place bound }
+// A table, with arrays by place: the declarations that group fields name, and the sizes of declarations.
+#[derive(Clone, Copy)]
+pub struct Groups<'a> {
+    pub table: &'a [Record],
+    pub targets: &'a [u16],
+    pub sizes: &'a [u16],
+    pub ghost measured: { Measured table.now targets.now sizes.now } by { Prim.hlevel props },
+}
+
+impl<'a> Groups<'a> {
+    // The groups of a table in listed order, with arrays that it fills.
+    pub fn new(table: &'a [Record], targets: &'a mut [u16], sizes: &'a mut [u16]) -> Self
+        requires table_len_bound { (length table.now ≤ 1600) × (length table.now ≤ length targets.old) × (length table.now ≤ length sizes.old) }
+        requires groups_first { GroupsFirst table.now }
+        ensures { result.table ≡ table.entry }
+    {
+        targets::fill(table, targets);
+        measure(table, targets, sizes);
+        Groups {
+            table,
+            targets,
+            sizes,
+        }
+    }
+
+    // How many records the inlined table has, if that is at most 1,600.
+    pub fn total(&self) -> usize
+        ensures { result ≡ total_size self.now.sizes.now self.now.table.now (length self.now.table.now) }
+    {
+        let mut s: usize = 0;
+        for (d, r) in self.table.iter().enumerate() {
+            if is_kept(r.kind) {
+                s += 1 + usize::from(self.sizes[d]);
+            }
+        }
+        s
+    }
+}
+
+// How many records a record behind a declaration becomes.
+fn size_here(targets: &[u16], sizes: &[u16], member: Member) -> usize
+    requires { (member.place < length targets.now) × (member.kind ≡ group_field → get_or targets.now member.place 0 < length sizes.now) }
+    ensures { (result ≡ size_here targets.now sizes.now member.kind member.place member.bound) × (result ≤ 65535) }
 {
-    if kind == kinds::GROUP_FIELD {
-        sizes[targets[place] as usize]
+    if member.kind == kinds::GROUP_FIELD {
+        usize::from(sizes[usize::from(targets[member.place])])
     } else {
-        u16::from(!bound)
+        usize::from(!member.bound)
     }
 }
 
@@ -31,17 +73,8 @@ fn size_after(table: &[Record], targets: &[u16], sizes: &[u16], decl: usize) -> 
     ensures { result ≡ size_from targets.now sizes.now table.now (decl + 1) }
 {
     let mut s: usize = 0;
-    let mut after = false;
-    for p in decl + 1..table.len() {
-        let k = table::kind(table, p);
-        if kinds::is_decl(k) {
-            return s;
-        }
-        let c = is_constraint_or_condition(k);
-        let bound = c & after;
-        after = (k == kinds::GROUP_FIELD) | bound;
-        let x = size_here(targets, sizes, k, p, bound);
-        s += x as usize;
+    for member in Members::new(table, decl) {
+        s += size_here(targets, sizes, member);
     }
     s
 }
@@ -50,7 +83,7 @@ fn size_after(table: &[Record], targets: &[u16], sizes: &[u16], decl: usize) -> 
 const TOO_MANY: usize = MOST_RECORDS + 1;
 
 // Writes the sizes of the declarations, in the order of the table: each group stands before what holds a field of it.
-pub fn measure(table: &[Record], targets: &[u16], sizes: &mut [u16])
+fn measure(table: &[Record], targets: &[u16], sizes: &mut [u16])
     requires table_len_bound { (length table.now ≤ 1600) × TargetsKnown table.now targets.now (length table.now) × (length table.now ≤ length sizes.old) }
     requires groups_first { GroupsFirst table.now }
     ensures { Sized table.now targets.now sizes.new (length table.now) }
@@ -61,18 +94,4 @@ pub fn measure(table: &[Record], targets: &[u16], sizes: &mut [u16])
             sizes[d] = s.min(TOO_MANY) as u16;
         }
     }
-}
-
-// How many records the inlined table has, if that is at most 1,600.
-pub fn total(table: &[Record], sizes: &[u16]) -> usize
-    requires { (length table.now ≤ 1600) × (length table.now ≤ length sizes.now) }
-    ensures { result ≡ total_size sizes.now table.now (length table.now) }
-{
-    let mut s: usize = 0;
-    for (d, x) in sizes[..table.len()].iter().enumerate() {
-        if is_kept(table::kind(table, d)) {
-            s += 1 + *x as usize;
-        }
-    }
-    s
 }

@@ -3,7 +3,7 @@ use Rattle.std.proofs.Common.{Some}
 use Prim.Native.Nat.{ℕ, zero, suc, ◌+◌, ◌-◌, ◌<◌, ◌≤◌, min}
 use mathlib.Core.Path.{◌≡◌, refl, sym, ap, ◌∙◌}
 use mathlib.Core.List.{List, [], ◌∷◌, ◌++◌}
-use mathlib.Core.Bool.{Bool, true, false, ◌&&◌, ◌||◌}
+use mathlib.Core.Bool.{Bool, true, false, ◌&&◌}
 use mathlib.Core.Logic.{inl, inr}
 use native.Mathlib.Omega.{arith}
 use native.Mathlib.Nat.{not-suc-le-zero, le_of_suc-le-suc}
@@ -19,15 +19,15 @@ use Rattle.rules.specs.InlineGroups.{is_constraint_or_condition, after_group, co
 use Rattle.rules.specs.declared.Record.{Record}
 use Rattle.rules.specs.declared.Inlined.{Inlined}
 use Rattle.rules.specs.declared.Target.TheVariants.{Decl}
-use Rattle.group_sizes.specs.GroupsFirst.{GroupsFirst}
 use Rattle.group_table.specs.declared.ExpandProgress.{ExpandProgress}
-use Rattle.group_sizes.specs.Targets.{TargetsKnown}
-use Rattle.group_sizes.specs.Sizes.{size_at, fields_size, size_from, Sized}
+use Rattle.group_sizes.specs.Members.{MemberIn, Ends, Step}
+use Rattle.group_sizes.specs.declared.members.Member.{Member}
+use Rattle.group_sizes.specs.Sizes.{size_at, fields_size, size_from, Measured}
 use Rattle.group_table.specs.Outputs.{Output, output, added, added_all, ExpandReady, Expanded}
 use Rattle.table.proofs.Laws.{at-inj, left-suc, left-none}
 use Rattle.table.proofs.Searches.{false-true}
-use Rattle.group_sizes.proofs.targets.Known.{named_in, named-declares, group-before}
-use Rattle.group_sizes.proofs.Fields.{here-start, here-next, after-start, after_next, size-next, size-end, Ends}
+use Rattle.group_sizes.proofs.Known.{named_in, named-declares, group-before}
+use Rattle.group_sizes.proofs.Fields.{here-start, here-next, size-next, size-end}
 
 -- what the records from p on become
 abbrev pub fields_from : (List ℕ → ℕ → List Inlined) → List Record → List ℕ → ℕ → List Inlined
@@ -115,20 +115,20 @@ nil-of : {A : Type 0} (l : List A) → length l ≡ 0 → l ≡ []
 nil-of [] h = refl
 nil-of (x ∷ l) h = absurd (omega arith)
 
-module _ (rs : List Record) (targets sizes : List ℕ) (t : GroupsFirst rs) (y : TargetsKnown rs targets (length rs)) (z : Sized rs targets sizes (length rs)) where
+module _ {rs : List Record} {targets sizes : List ℕ} (y : Measured rs targets sizes) where
   size-saturated : (d : ℕ) → d < length rs → is_decl (at rs d).kind ≡ true → get_or sizes d 0 ≤ 1601
-  size-saturated d l i = let e = z.right d l i in omega arith
+  size-saturated d l i = let e = y.sized.right d l i in omega arith
 
   module _ (d : ℕ) (e : List ℕ → ℕ → List Inlined) (ok : (env : List ℕ) (g : ℕ) → g < d → g < length rs → is_decl (at rs g).kind ≡ true → min 1601 (length (e env g)) ≡ get_or sizes g 0) where
     group-size : (env : List ℕ) (p : ℕ) → p < length rs → eqb (at rs p).kind 34 ≡ true → nearest (holds_at rs Decl) p ≡ Some d
         → min 1601 (length (group_fields e env (decl_named rs (at rs p).second))) ≡ min 1601 (get_or sizes (get_or targets p 0) 0)
     unfolding group_fields
     group-size env p l i h =
-        let f = y.right p l i in
+        let f = y.resolved.right p l i in
         let b = named_in rs (at rs p).second f in
         let j = named-declares rs (at rs p).second f in
         let s = size-saturated (get_or targets p 0) b j in
-        rw f (ok env (get_or targets p 0) (group-before rs t p l i h f) b j ∙ omega arith)
+        rw f (ok env (get_or targets p 0) (group-before rs y.groups p l i h f) b j ∙ omega arith)
 
     field-size : (env : List ℕ) (p : ℕ) → p < length rs → nearest (holds_at rs Decl) p ≡ Some d → min 1601 (length (inlined_field e rs env p)) ≡ min 1601 (size_at targets sizes rs p)
     unfolding inlined_field size_at
@@ -155,178 +155,176 @@ module _ (rs : List Record) (targets sizes : List ℕ) (t : GroupsFirst rs) (y :
   unfolding expand
   expand-size zero env d h l i = absurd (not-suc-le-zero h)
   expand-size (suc k) env d h l i =
-      fields-size d (expand rs k) (λ v g b m j. expand-size k v g (omega arith) m j) env (length rs - (d + 1)) (d + 1) (omega arith) (here-start rs d i) ∙ sym (z.right d l i)
+      fields-size d (expand rs k) (λ v g b m j. expand-size k v g (omega arith) m j) env (length rs - (d + 1)) (d + 1) (omega arith) (here-start rs d i) ∙ sym (y.sized.right d l i)
 
   expand-none : (k : ℕ) (env : List ℕ) (d : ℕ) → d < k → d < length rs → is_decl (at rs d).kind ≡ true → get_or sizes d 0 ≡ 0 → expand rs k env d ≡ []
   expand-none k env d h l i e = let w = expand-size k env d h l i in nil-of (expand rs k env d) (omega arith)
 
--- ---- the loop over the records of the declaration at d, at place p: what is written and what is left make the whole
+-- ---- the records behind the declaration at d: what is written at p, and what is left, make the whole
 
-pub record Walking (rs : List Record) (targets sizes : List ℕ) (d : ℕ) (env₀ : List ℕ) (out₀ : List Record) (a : ExpandProgress) (env : List ℕ) (out : List Record) (s : ExpandProgress) (after : Bool) (p : ℕ) : Type 0 where
+pub record Walking (rs : List Record) (targets sizes : List ℕ) (d : ℕ) (env₀ : List ℕ) (out₀ : List Record) (a : ExpandProgress) (env : List ℕ) (out : List Record) (s : ExpandProgress) (p : ℕ) : Type 0 where
   pub past : d < p
   pub here : nearest (holds_at rs Decl) p ≡ Some d
-  pub flag : after ≡ after_group rs p
-  pub made : (k : ℕ) → d ≤ k → added_all (output a out₀) (fields_from (expand rs k) rs (env₀) (d + 1)) ≡ added_all (output s out) (fields_from (expand rs k) rs (env₀) p)
+  pub made : (k : ℕ) → d ≤ k → added_all (output a out₀) (fields_from (expand rs k) rs env₀ (d + 1)) ≡ added_all (output s out) (fields_from (expand rs k) rs env₀ p)
   pub kept : env ≡ env₀
   pub out-long : length out ≡ length out₀
   pub counted : s.count + size_from targets sizes rs p ≡ a.count + get_or sizes d 0
 
-module _ {rs : List Record} {targets sizes : List ℕ} {d : ℕ} {env₀ : List ℕ} {out₀ : List Record} {a : ExpandProgress} (y : ExpandReady rs targets sizes d env₀ out₀ a) where
-  pub walk_start : Walking rs targets sizes d env₀ out₀ a env₀ out₀ a false (d + 1)
+module _ {rs : List Record} {targets sizes : List ℕ} (k : Measured rs targets sizes) {d : ℕ} {env₀ : List ℕ} {out₀ : List Record} {a : ExpandProgress} (y : ExpandReady rs sizes d env₀ out₀ a) where
+  pub walk_start : Walking rs targets sizes d env₀ out₀ a env₀ out₀ a (d + 1)
   walk_start =
-      let i = y.decl.1 in
-      let l = y.decl.0 in
-      let z = y.known.sized.right d l i in
+      let z = k.sized.right d y.decl.0 y.decl.1 in
       let r = y.room in
-      record {
-        past = omega arith;
-        here = here-start rs d i;
-        flag = after-start rs d i;
-        made = λ k h. refl;
-        kept = refl;
-        out-long = refl;
-        counted = omega arith;
-      }
+      record { past = omega arith; here = here-start rs d y.decl.1; made = λ k h. refl; kept = refl; out-long = refl; counted = omega arith }
 
-  module _ {env : List ℕ} {out : List Record} {s : ExpandProgress} {after : Bool} {p : ℕ} (w : Walking rs targets sizes d env₀ out₀ a env out s after p) where
-    -- nothing is left
-    pub walk_end : Ends rs p → Expanded rs sizes d env₀ out₀ a env out s
-    unfolding expand added_all
-    walk_end e =
-        let c = w.counted in
-        let q = size-end rs p e targets sizes in
-        record { made = made; kept = w.kept; counted = omega arith }
-      where
-        made : (k : ℕ) → d < k → output s out ≡ added_all (output a out₀) (expand rs k (env₀) d)
-        made zero h = absurd (not-suc-le-zero h)
-        made (suc k) h = sym (w.made k (le_of_suc-le-suc h) ∙ rw (fields-end rs p e (expand rs k) (env₀)))
+  -- nothing is left
+  pub walk_end : {env : List ℕ} {out : List Record} {s : ExpandProgress} {p : ℕ} → Walking rs targets sizes d env₀ out₀ a env out s p → Ends rs p → Expanded rs sizes d env₀ out₀ a env out s
+  unfolding expand added_all
+  walk_end {out = out} {s = s} {p = p} w e =
+      let c = w.counted in
+      let q = size-end rs p e targets sizes in
+      record { made = made; kept = w.kept; counted = omega arith }
+    where
+      made : (k : ℕ) → d < k → output s out ≡ added_all (output a out₀) (expand rs k env₀ d)
+      made zero h = absurd (not-suc-le-zero h)
+      made (suc k) h = sym (w.made k (le_of_suc-le-suc h) ∙ rw (fields-end rs p e (expand rs k) env₀))
 
-    module _ (l : p < length rs) (o : is_decl (at rs p).kind ≡ false) {b : Bool} (be : b ≡ (eqb (at rs p).kind 34 || (is_constraint_or_condition (at rs p).kind && after))) where
-      -- what the record at p becomes is written
-      walk-next : {env' : List ℕ} {out' : List Record} {s' : ExpandProgress}
-          → ((k : ℕ) → d ≤ k → output s' out' ≡ added_all (output s out) (inlined_field (expand rs k) rs (env₀) p))
-          → s'.count ≡ s.count + size_at targets sizes rs p → env' ≡ env → length out' ≡ length out
-          → Walking rs targets sizes d env₀ out₀ a env' out' s' b (p + 1)
-      walk-next new c e g =
-          let h = w.past in
-          let q = w.counted in
-          let z = size-next rs p l o targets sizes in
+  -- what stands at the place of m is written
+  module _ {env : List ℕ} {out : List Record} {s : ExpandProgress} {m : Member} (w : Walking rs targets sizes d env₀ out₀ a env out s m.place) (h : MemberIn rs m) where
+    walk-next : {env' : List ℕ} {out' : List Record} {s' : ExpandProgress}
+        → ((k : ℕ) → d ≤ k → output s' out' ≡ added_all (output s out) (inlined_field (expand rs k) rs env₀ m.place))
+        → s'.count ≡ s.count + size_at targets sizes rs m.place → env' ≡ env → length out' ≡ length out
+        → Walking rs targets sizes d env₀ out₀ a env' out' s' (m.place + 1)
+    walk-next new c e g =
+        let l = w.past in
+        let q = w.counted in
+        let z = size-next rs m.place h.below h.inside targets sizes in
+        record {
+          past = omega arith;
+          here = here-next rs m.place h.inside w.here;
+          made = λ k i. w.made k i ∙ rw (fields-next rs m.place h.below h.inside (expand rs k) env₀, added-append, ← new k i);
+          kept = e ∙ w.kept;
+          out-long = g ∙ w.out-long;
+          counted = omega arith;
+        }
+
+    size-left : s.count + size_at targets sizes rs m.place ≤ a.count + get_or sizes d 0
+    size-left = let q = w.counted in let z = size-next rs m.place h.below h.inside targets sizes in omega arith
+
+    -- ---- a group field: its group stands at g
+    module _ (k34 : m.kind ≡ 34) where
+      is-group : eqb (at rs m.place).kind 34 ≡ true
+      is-group = eq-eqb _ _ (sym h.kind ∙ k34)
+
+      g : ℕ
+      g = get_or targets m.place 0
+
+      found : decl_named rs (at rs m.place).second ≡ Some g
+      unfolding g
+      found = k.resolved.right m.place h.below is-group
+
+      before : g < d
+      before = group-before rs k.groups m.place h.below is-group w.here found
+
+      pub target-known : m.place < length targets
+      target-known = let l = h.below in let r = k.resolved.long in omega arith
+
+      pub group-in : get_or targets m.place 0 < length sizes
+      unfolding g
+      group-in = let n = named_in rs (at rs m.place).second found in let l = k.sized.long in omega arith
+
+      size-found : size_at targets sizes rs m.place ≡ get_or sizes g 0
+      unfolding size_at g
+      size-found = rw (size_at, is-group)
+
+      field-group : (e : List ℕ → ℕ → List Inlined) (v : List ℕ) → inlined_field e rs v m.place ≡ e (v ++ own_constraints rs m.place) g
+      unfolding inlined_field group_fields
+      field-group e v = rw (inlined_field, is-group, found)
+
+      own-fits : length env + length (own_constraints rs m.place) + (m.place + 1) ≤ 1600
+      own-fits =
+          let r = constraints-run rs d (length rs - (m.place + 1)) (m.place + 1) (here-next rs m.place h.inside w.here) in
+          let l = h.below in
+          let i = r.within in
+          let j = r.enough in
+          let x = y.spare r.end (omega arith) r.here in
+          let e = ap length w.kept in
+          omega arith
+
+      pub call-push : (length rs ≤ 1600) × (length env + length (own_constraints rs m.place) ≤ 1600)
+      call-push = let f = own-fits in (k.few, omega arith)
+
+      -- it has no fields
+      pub turn-empty : get_or sizes (get_or targets m.place 0) 0 ≡ 0 → Walking rs targets sizes d env₀ out₀ a env out s (m.place + 1)
+      unfolding added_all g
+      turn-empty z =
+          let q = size-found in
+          let v = before in
+          let none : (n : ℕ) → d ≤ n → inlined_field (expand rs n) rs env₀ m.place ≡ [] =
+          λ n i. field-group (expand rs n) env₀ ∙ expand-none k n (env₀ ++ own_constraints rs m.place) g (omega arith) (named_in rs (at rs m.place).second found) (named-declares rs (at rs m.place).second found) z in
+          walk-next (λ n i. sym (rw (none n i))) (omega arith) refl refl
+
+      -- its fields are written
+      module _ {env₁ : List ℕ} (pm : env₁ ≡ env ++ own_constraints rs m.place) where
+        pub call-expand : {x : ℕ} → d ≡ x → (get_or targets m.place 0 < x) × ExpandReady rs sizes (get_or targets m.place 0) env₁ out s
+        unfolding g
+        call-expand e = (
+          (let f = before in omega arith),
           record {
-            past = omega arith;
-            here = here-next rs p o w.here;
-            flag = be ∙ after_next rs p w.flag;
-            made = λ k i. w.made k i ∙ rw (fields-next rs p l o (expand rs k) (env₀), added-append, ← new k i);
-            kept = e ∙ w.kept;
-            out-long = g ∙ w.out-long;
-            counted = omega arith;
-          }
+            decl = (named_in rs (at rs m.place).second found, named-declares rs (at rs m.place).second found);
+            spare = λ x i f. (let j = here-past rs d y.decl.1 x f before in let q = simp length-append at (ap length pm) in let r = own-fits in let v = w.past in omega arith);
+            room = (let f = size-left in let q = size-found in let r = y.room in omega arith);
+            wide = (let f = size-left in let q = size-found in let e = w.out-long in let v = y.wide in omega arith);
+          },
+        )
 
-      size-left : s.count + size_at targets sizes rs p ≤ a.count + get_or sizes d 0
-      size-left = let q = w.counted in let z = size-next rs p l o targets sizes in omega arith
-
-      -- ---- a group field: its group stands at g
-      module _ (k34 : (at rs p).kind ≡ 34) where
-        g : ℕ
-        g = get_or targets p 0
-
-        found : decl_named rs (at rs p).second ≡ Some g
+        pub turn-group : {env₂ env₃ : List ℕ} {out₂ : List Record} {s₂ : ExpandProgress} → Expanded rs sizes (get_or targets m.place 0) env₁ out s env₂ out₂ s₂ → env₃ ≡ take (length env) env₂ → length out₂ ≡ length out
+            → Walking rs targets sizes d env₀ out₀ a env₃ out₂ s₂ (m.place + 1)
         unfolding g
-        found = y.known.resolved.right p l (eq-eqb _ _ k34)
-
-        before : g < d
-        before = group-before rs y.known.groups p l (eq-eqb _ _ k34) w.here found
-
-        pub group-in : get_or targets p 0 < length sizes
-        unfolding g
-        group-in = let h = named_in rs (at rs p).second found in let m = y.known.sized.long in omega arith
-
-        size-found : size_at targets sizes rs p ≡ get_or sizes g 0
-        unfolding size_at g
-        size-found = rw (size_at, eq-eqb _ _ k34)
-
-        field-group : (e : List ℕ → ℕ → List Inlined) (v : List ℕ) → inlined_field e rs v p ≡ e (v ++ own_constraints rs p) g
-        unfolding inlined_field group_fields
-        field-group e v = rw (inlined_field, eq-eqb _ _ k34, found)
-
-        run : Run rs d (p + 1) (length rs - (p + 1))
-        run = constraints-run rs d (length rs - (p + 1)) (p + 1) (here-next rs p o w.here)
-
-        own-fits : length env + length (own_constraints rs p) + (p + 1) ≤ 1600
-        own-fits =
-            let r = run in
-            let i = r.within in
-            let j = r.enough in
-            let x = y.spare r.end (omega arith) r.here in
-            let e = ap length w.kept in
-            omega arith
-
-        pub call-push : (length rs ≤ 1600) × (length env + length (own_constraints rs p) ≤ 1600)
-        call-push = let h = own-fits in (y.known.few, omega arith)
-
-        -- it has no fields
-        pub turn-empty : get_or sizes (get_or targets p 0) 0 ≡ 0 → Walking rs targets sizes d env₀ out₀ a env out s b (p + 1)
-        unfolding added_all g
-        turn-empty z =
+        turn-group {env₂} {env₃} {out₂} {s₂} x e f =
             let q = size-found in
-            let v = before in
-            let none : (k : ℕ) → d ≤ k → inlined_field (expand rs k) rs (env₀) p ≡ [] =
-            λ k h. field-group (expand rs k) (env₀) ∙ expand-none rs targets sizes y.known.groups y.known.resolved y.known.sized k (env₀ ++ own_constraints rs p) g (omega arith) (named_in rs (at rs p).second found) (named-declares rs (at rs p).second found) z in
-            walk-next (λ k h. sym (rw (none k h))) (omega arith) refl refl
+            let c = x.counted in
+            walk-next
+            (λ n i. let v = before in x.made n (omega arith) ∙ rw (field-group (expand rs n) env₀, pm, w.kept))
+            (omega arith)
+            (e ∙ rw (x.kept, pm, take-append-le (length env) env (own_constraints rs m.place) (omega arith)) (take-length env))
+            f
 
-        -- its fields are written
-        module _ {env₁ : List ℕ} (pm : env₁ ≡ env ++ own_constraints rs p) where
-          pub call-expand : {x : ℕ} → d ≡ x → (get_or targets p 0 < x) × ExpandReady rs targets sizes (get_or targets p 0) env₁ out s
-          unfolding g
-          call-expand e = (
-            (let h = before in omega arith),
-            record {
-              known = y.known;
-              decl = (named_in rs (at rs p).second found, named-declares rs (at rs p).second found);
-              spare = λ x i h. (let j = here-past rs d y.decl.1 x h before in let q = simp length-append at (ap length pm) in let r = own-fits in let v = w.past in omega arith);
-              room = (let h = size-left in let q = size-found in let r = y.room in omega arith);
-              wide = (let h = size-left in let q = size-found in let e = w.out-long in let v = y.wide in omega arith);
-            },
-          )
+    -- ---- any other record
+    module _ (k34 : ¬ (m.kind ≡ 34)) where
+      no-group : eqb (at rs m.place).kind 34 ≡ false
+      no-group = ne_eqb _ _ (λ e. k34 (h.kind ∙ e))
 
-          pub turn-group : {env₂ env₃ : List ℕ} {out₂ : List Record} {s₂ : ExpandProgress} → Expanded rs sizes (get_or targets p 0) env₁ out s env₂ out₂ s₂ → env₃ ≡ take (length env) env₂ → length out₂ ≡ length out
-              → Walking rs targets sizes d env₀ out₀ a env₃ out₂ s₂ b (p + 1)
-          unfolding g
-          turn-group {env₂} {env₃} {out₂} {s₂} x e f =
-              let q = size-found in
-              let c = x.counted in
-              walk-next
-              (λ k h. let v = before in x.made k (omega arith) ∙ rw (field-group (expand rs k) env₀, pm, w.kept))
-              (omega arith)
-              (e ∙ rw (x.kept, pm, take-append-le (length env) env (own_constraints rs p) (omega arith)) (take-length env))
-              f
+      -- what belongs to a group field is lost
+      pub turn-lost : m.bound ≡ true → Walking rs targets sizes d env₀ out₀ a env out s (m.place + 1)
+      unfolding inlined_field size_at added_all
+      turn-lost f =
+          let b = sym h.bound ∙ f in
+          let z : size_at targets sizes rs m.place ≡ 0 = rw (size_at, no-group, b) in
+          walk-next (λ n i. rw (inlined_field, no-group, b)) (omega arith) refl refl
 
-      -- ---- any other record
-      module _ (k34 : ¬ ((at rs p).kind ≡ 34)) where
-        -- what belongs to a group field is lost
-        pub turn-lost : (is_constraint_or_condition (at rs p).kind && after) ≡ true → Walking rs targets sizes d env₀ out₀ a env out s b (p + 1)
-        unfolding inlined_field size_at added_all
-        turn-lost g =
-            let h : (is_constraint_or_condition (at rs p).kind && after_group rs p) ≡ true = rw w.flag at g in
-            let z : size_at targets sizes rs p ≡ 0 = rw (size_at, ne_eqb _ _ k34, h) in
-            walk-next (λ k i. rw (inlined_field, ne_eqb _ _ k34, h)) (omega arith) refl refl
+      module _ (f : m.bound ≡ false) where
+        size-one : size_at targets sizes rs m.place ≡ 1
+        unfolding size_at
+        size-one = rw (size_at, no-group, sym h.bound ∙ f)
 
-        module _ (g : (is_constraint_or_condition (at rs p).kind && after) ≡ false) where
-          size-one : size_at targets sizes rs p ≡ 1
-          unfolding size_at
-          size-one = let h : (is_constraint_or_condition (at rs p).kind && after_group rs p) ≡ false = rw w.flag at g in rw (size_at, ne_eqb _ _ k34, h)
+        pub call-add : s.count < length out
+        call-add = let q = size-one in let l = size-left in let e = w.out-long in let v = y.wide in omega arith
 
-          pub call-add : s.count < length out
-          call-add = let q = size-one in let h = size-left in let e = w.out-long in let v = y.wide in omega arith
+        -- what is written
+        pub turn_one : {out₂ : List Record} {s₂ : ExpandProgress} → output s₂ out₂ ≡ added (output s out) (inlined_record rs env (at rs m.place)) → length out₂ ≡ length out
+            → Walking rs targets sizes d env₀ out₀ a env out₂ s₂ (m.place + 1)
+        unfolding inlined_field added_all added
+        turn_one {out₂} {s₂} x e =
+            let q = size-one in
+            let c : s₂.count ≡ s.count + 1 = ap (λ (u : Output). u.progress.count) x in
+            walk-next (λ n i. x ∙ rw (inlined_field, no-group, sym h.bound ∙ f, w.kept)) (omega arith) refl e
 
-          -- what is written
-          pub turn_one : {out₂ : List Record} {s₂ : ExpandProgress} → output s₂ out₂ ≡ added (output s out) (inlined_record rs env (at rs p)) → length out₂ ≡ length out
-              → Walking rs targets sizes d env₀ out₀ a env out₂ s₂ b (p + 1)
-          unfolding inlined_field added_all added
-          turn_one {out₂} {s₂} x e =
-              let h : (is_constraint_or_condition (at rs p).kind && after_group rs p) ≡ false = rw w.flag at g in
-              let q = size-one in
-              let c : s₂.count ≡ s.count + 1 = ap (λ (u : Output). u.progress.count) x in
-              walk-next (λ k i. x ∙ rw (inlined_field, ne_eqb _ _ k34, h, w.kept)) (omega arith) refl e
+-- ---- a step of the loop, from place p to place q
 
-pub added-record : (rs : List Record) (env : List ℕ) (o : Output) {r r' : Record} {x : Inlined} {m : Output} → r ≡ r' → x ≡ inlined_record rs env r → m ≡ added o x → m ≡ added o (inlined_record rs env r')
-added-record rs env o q e k = k ∙ rw (e, q)
+module _ {rs t : List Record} {targets sizes : List ℕ} {d : ℕ} {env₀ : List ℕ} {out₀ : List Record} {a : ExpandProgress} {t' : List Record} {m : Member} {p q : ℕ} (z : Step t p (Some m) t' q) where
+  pub step_in : {env : List ℕ} {out : List Record} {s : ExpandProgress} → (t ≡ rs) × Walking rs targets sizes d env₀ out₀ a env out s p → Walking rs targets sizes d env₀ out₀ a env out s m.place × MemberIn rs m
+  step_in v = (rw (← z.2) at v.1, rw v.0 at z.0)
+
+  pub step_out : {env : List ℕ} {out : List Record} {s : ExpandProgress} → t ≡ rs → Walking rs targets sizes d env₀ out₀ a env out s (m.place + 1) → (t' ≡ rs) × Walking rs targets sizes d env₀ out₀ a env out s q
+  step_out e w = (z.1 ∙ e, rw z.3 w)

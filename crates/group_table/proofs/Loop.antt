@@ -11,14 +11,11 @@ use Rattle.rules.specs.InlineGroups.{is_kept, kept, expand, inlined_at, inlined}
 use Rattle.rules.specs.declared.Record.{Record}
 use Rattle.table.proofs.Laws.{each_more}
 use Rattle.group_table.specs.declared.ExpandProgress.{ExpandProgress}
-use Rattle.group_sizes.specs.Sizes.{total_size}
-use Rattle.group_table.specs.Outputs.{Output, output, added, added_all, empty, ExpandReady, Expanded, RoomForInlined}
+use Rattle.group_sizes.specs.Sizes.{total_size, Measured}
+use Rattle.group_table.specs.Outputs.{Output, output, added, added_all, empty, ExpandReady, Expanded}
 use Rattle.group_table.proofs.Expands.{added-append}
 use Rattle.group_sizes.proofs.Measures.{total-next, total-other}
 use Rattle.group_table.proofs.Totals.{total-rises, kept-decl}
-
-pub added-kept : (o : Output) {m : Output} {r r' : Record} → r ≡ r' → m ≡ added o (kept r) → m ≡ added o (kept r')
-added-kept o e h = rw e at h
 
 pub record Writing (rs : List Record) (sizes : List ℕ) (out₀ : List Record) (env : List ℕ) (out : List Record) (s : ExpandProgress) (d : ℕ) : Type 0 where
   pub made : output s out ≡ added_all (output empty out₀) (each (inlined_at rs) d)
@@ -30,7 +27,7 @@ pub write-start : (rs : List Record) (sizes : List ℕ) (out : List Record) → 
 unfolding added_all each total_size
 write-start rs sizes out = record { made = refl; counted = refl; bare = refl; out-long = refl }
 
-module _ {rs : List Record} {targets sizes : List ℕ} {out₀ : List Record} (y : RoomForInlined rs targets sizes out₀) (few : total_size sizes rs (length rs) ≤ 1600) where
+module _ {rs : List Record} {targets sizes : List ℕ} (y : Measured rs targets sizes) {out₀ : List Record} (wide : total_size sizes rs (length rs) ≤ length out₀) (few : total_size sizes rs (length rs) ≤ 1600) where
   module _ {env : List ℕ} {out : List Record} {s : ExpandProgress} {d : ℕ} (w : Writing rs sizes out₀ env out s d) (l : d < length rs) where
     pub write-other : is_kept (at rs d).kind ≡ false → Writing rs sizes out₀ env out s (d + 1)
     unfolding inlined_at
@@ -47,21 +44,20 @@ module _ {rs : List Record} {targets sizes : List ℕ} {out₀ : List Record} (y
       left = let a = total-next sizes rs d i in let b = total-rises sizes rs (d + 1) (length rs) (omega arith) in let c = w.counted in omega arith
 
       pub call-first : s.count < length out
-      call-first = let a = left in let b = w.out-long in let c = y.wide in omega arith
+      call-first = let a = left in let b = w.out-long in omega arith
 
       module _ {out₁ : List Record} {s₁ : ExpandProgress} (p : output s₁ out₁ ≡ added (output s out) (kept (at rs d))) (o : length out₁ ≡ length out) where
         one_more : s₁.count ≡ s.count + 1
         unfolding added
         one_more = ap (λ (u : Output). u.progress.count) p
 
-        pub call-rest : ExpandReady rs targets sizes d env out₁ s₁
+        pub call-rest : ExpandReady rs sizes d env out₁ s₁
         call-rest =
             record {
-              known = y.known;
               decl = (l, kept-decl (at rs d).kind i);
-              spare = λ e h q. rw w.bare (let a = y.known.few in omega arith);
+              spare = λ e h q. rw w.bare (let a = y.few in omega arith);
               room = (let a = left in let b = one_more in omega arith);
-              wide = (let a = left in let b = one_more in let c = w.out-long in let e = y.wide in omega arith);
+              wide = (let a = left in let b = one_more in let c = w.out-long in omega arith);
             }
 
         pub write-next : {env₂ : List ℕ} {out₂ : List Record} {s₂ : ExpandProgress} → Expanded rs sizes d env out₁ s₁ env₂ out₂ s₂ → length out₂ ≡ length out₁

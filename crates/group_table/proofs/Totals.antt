@@ -13,9 +13,7 @@ use Rattle.rules.specs.Kinds.{is_decl}
 use Rattle.rules.specs.InlineGroups.{is_kept, inlined_at, inlined}
 use Rattle.rules.specs.declared.Record.{Record}
 use Rattle.table.proofs.Searches.{and-true}
-use Rattle.group_sizes.specs.GroupsFirst.{GroupsFirst}
-use Rattle.group_sizes.specs.Targets.{TargetsKnown}
-use Rattle.group_sizes.specs.Sizes.{total_size, Sized}
+use Rattle.group_sizes.specs.Sizes.{total_size, Measured}
 use Rattle.group_table.proofs.Expands.{expand-size, min-sum}
 
 pub total-rises : (sizes : List ℕ) (rs : List Record) (d n : ℕ) → d ≤ n → total_size sizes rs d ≤ total_size sizes rs n
@@ -30,7 +28,7 @@ total-rises sizes rs d (suc n) h = go (λ z. total-rises sizes rs d n z) (dec_lt
 pub kept-decl : (k : ℕ) → is_kept k ≡ true → is_decl k ≡ true
 kept-decl k i = (and-true (is_decl k) (not (eqb k 6)) i).0
 
-module _ (rs : List Record) (targets sizes : List ℕ) (t : GroupsFirst rs) (y : TargetsKnown rs targets (length rs)) (z : Sized rs targets sizes (length rs)) where
+module _ {rs : List Record} {targets sizes : List ℕ} (y : Measured rs targets sizes) where
   -- the total is the length of the inlined table, as far as 1,601
   each-size : (n : ℕ) → n ≤ length rs → min 1601 (length (each (inlined_at rs) n)) ≡ min 1601 (total_size sizes rs n)
   unfolding each total_size inlined_at
@@ -40,7 +38,7 @@ module _ (rs : List Record) (targets sizes : List ℕ) (t : GroupsFirst rs) (y :
       go : min 1601 (length (each (inlined_at rs) d)) ≡ min 1601 (total_size sizes rs d) → (b : Bool) → is_kept (at rs d).kind ≡ b
           → min 1601 (length (each (inlined_at rs) (suc d))) ≡ min 1601 (total_size sizes rs (suc d))
       go r true i =
-          let k = expand-size rs targets sizes t y z (length rs) [] d (omega arith) (omega arith) (kept-decl (at rs d).kind i) in
+          let k = expand-size y (length rs) [] d (omega arith) (omega arith) (kept-decl (at rs d).kind i) in
           rw (each, total_size, length-append, inlined_at, i)
           (min-sum _ _ _ _ r (omega arith))
       go r false i = rw (each, total_size, length-append, inlined_at, i) (min-sum _ _ _ _ r refl)

@@ -7,11 +7,8 @@ use Rattle.rules.specs.InlineGroups.{expand}
 use Rattle.rules.specs.declared.Record.{Record}
 use Rattle.rules.specs.declared.Inlined.{Inlined}
 use Rattle.rules.specs.declared.Target.TheVariants.{Decl}
-use Rattle.group_sizes.specs.GroupsFirst.{GroupsFirst}
 use Rattle.group_table.specs.declared.ExpandProgress.{ExpandProgress}
 use Rattle.rules.specs.declared.FieldKey.{FieldKey}
-use Rattle.group_sizes.specs.Targets.{TargetsKnown}
-use Rattle.group_sizes.specs.Sizes.{Sized, total_size}
 
 -- the first record that is not fit tells its key
 unfoldable pub unfit_after : Option FieldKey → Inlined → Option FieldKey
@@ -40,21 +37,8 @@ added_all o (x ∷ xs) = added_all (added o x) xs
 abbrev pub empty : ExpandProgress
 empty = record { count = 0; unfit = None }
 
--- what is known of a table once its groups are measured
-pub record Measured (rs : List Record) (targets sizes : List ℕ) : Type 0 where
-  pub few : length rs ≤ 1600
-  pub groups : GroupsFirst rs
-  pub resolved : TargetsKnown rs targets (length rs)
-  pub sized : Sized rs targets sizes (length rs)
-
--- what the whole table needs
-pub record RoomForInlined (rs : List Record) (targets sizes : List ℕ) (out : List Record) : Type 0 where
-  pub known : Measured rs targets sizes
-  pub wide : total_size sizes rs (length rs) ≤ length out
-
 -- what the declaration at d needs, with the constraints env on the stack, which has place for those of the records before it, too
-pub record ExpandReady (rs : List Record) (targets sizes : List ℕ) (d : ℕ) (env : List ℕ) (out : List Record) (a : ExpandProgress) : Type 0 where
-  pub known : Measured rs targets sizes
+pub record ExpandReady (rs : List Record) (sizes : List ℕ) (d : ℕ) (env : List ℕ) (out : List Record) (a : ExpandProgress) : Type 0 where
   pub decl : (d < length rs) × (is_decl (at rs d).kind ≡ true)
   pub spare : (e : ℕ) → e ≤ length rs → nearest (holds_at rs Decl) e ≡ Some d → length env + e ≤ 1600
   pub room : a.count + get_or sizes d 0 ≤ 1600

@@ -4,11 +4,13 @@
 ghost use Rattle.std.specs.Prelude.{◌≡◌, ◌+◌, ◌<◌, ◌≤◌, length};
 ghost use Rattle.rules.specs.InlineGroups.{inlined};
 ghost use Rattle.group_sizes.specs.Sizes.{total_size};
-ghost use Rattle.group_table.specs.Outputs.{unfit_after, output, added, added_all, empty, RoomForInlined, ExpandReady, Expanded};
+ghost use Rattle.group_table.specs.Outputs.{unfit_after, output, added, added_all, empty, ExpandReady, Expanded};
 
 use group_constraints::inlined_record;
 use group_constraints::stack::Stack;
-use kinds::{is_constraint_or_condition, is_kept};
+use group_sizes::Groups;
+use group_sizes::members::{Member, Members};
+use kinds::is_kept;
 use rules::{FieldKey, Inlined, Record};
 
 // How many records are written, and the key of the first that is not fit.
@@ -40,37 +42,28 @@ fn add(out: &mut [Record], progress: ExpandProgress, next: Inlined) -> ExpandPro
 // Writes what stands behind the declaration at `decl`, under the constraints on the stack. The group of a field is the
 // declaration at its place of targets; one of size 0 is passed over.
 fn expand(
-    table: &[Record],
-    targets: &[u16],
-    sizes: &[u16],
+    groups: &Groups,
     decl: usize,
     env: &mut Stack,
     out: &mut [Record],
     progress: ExpandProgress,
 ) -> ExpandProgress
-    requires { ExpandReady table.now targets.now sizes.now decl env.old out.old progress }
-    ensures { Expanded table.now sizes.now decl env.old out.old progress env.new out.new result }
+    requires { ExpandReady groups.now.table.now groups.now.sizes.now decl env.old out.old progress }
+    ensures { Expanded groups.now.table.now groups.now.sizes.now decl env.old out.old progress env.new out.new result }
 {
+    let table = groups.table;
     let mut s = progress;
-    let mut after = false;
-    for p in decl + 1..table.len() {
-        let k = table::kind(table, p);
-        if kinds::is_decl(k) {
-            return s;
-        }
-        let c = is_constraint_or_condition(k);
-        let bound = c & after;
-        after = (k == kinds::GROUP_FIELD) | bound;
-        if k == kinds::GROUP_FIELD {
-            let g = targets[p] as usize;
-            if sizes[g] != 0 {
+    for Member { place, kind, bound } in Members::new(table, decl) {
+        if kind == kinds::GROUP_FIELD {
+            let g = usize::from(groups.targets[place]);
+            if groups.sizes[g] != 0 {
                 let top = env.len();
-                env.push_constraints(table, p + 1);
-                s = expand(table, targets, sizes, g, env, out, s);
+                env.push_constraints(table, place + 1);
+                s = expand(groups, g, env, out, s);
                 env.truncate(top);
             }
         } else if !bound {
-            let r = table::at(table, p);
+            let r = table::at(table, place);
             s = add(out, s, inlined_record(table, env.as_slice(), r));
         }
     }
@@ -78,26 +71,27 @@ fn expand(
 }
 
 // Writes the inlined table.
-pub fn write_all(
-    table: &[Record],
-    targets: &[u16],
-    sizes: &[u16],
-    out: &mut [Record],
-) -> ExpandProgress
-    requires room_for_inlined { RoomForInlined table.now targets.now sizes.now out.old }
-    requires table_bound { total_size sizes.now table.now (length table.now) ≤ 1600 }
-    ensures { output result out.new ≡ added_all (output empty out.old) (inlined table.now) }
+pub fn write_all(groups: &Groups, out: &mut [Record]) -> ExpandProgress
+    requires room_for_inlined { total_size groups.now.sizes.now groups.now.table.now (length groups.now.table.now) ≤ length out.old }
+    requires table_bound { total_size groups.now.sizes.now groups.now.table.now (length groups.now.table.now) ≤ 1600 }
+    ensures { output result out.new ≡ added_all (output empty out.old) (inlined groups.now.table.now) }
 {
     let mut env = Stack::new();
     let mut s = ExpandProgress {
         count: 0,
         unfit: None,
     };
-    for d in 0..table.len() {
-        let r = table::at(table, d);
+    for (d, r) in groups.table.iter().enumerate() {
         if is_kept(r.kind) {
-            let first = add(out, s, Inlined { made: r, fit: true });
-            s = expand(table, targets, sizes, d, &mut env, out, first);
+            let first = add(
+                out,
+                s,
+                Inlined {
+                    made: *r,
+                    fit: true,
+                },
+            );
+            s = expand(groups, d, &mut env, out, first);
         }
     }
     s

@@ -15,12 +15,10 @@ use Rattle.rules.specs.InlineGroups.{kept, inlined, record_of, unfit_at, first_u
 use Rattle.rules.specs.declared.Record.{Record}
 use Rattle.rules.specs.declared.Inlined.{Inlined}
 use Rattle.rules.specs.declared.FieldKey.{FieldKey}
-use Rattle.group_sizes.specs.GroupsFirst.{GroupsFirst}
 use Rattle.group_table.specs.declared.ExpandProgress.{ExpandProgress}
 use Rattle.inline_groups.specs.declared.InlineError.{InlineError}
 use Rattle.inline_groups.specs.declared.InlineError.TheVariants.{Swollen, BufferShort}
-use Rattle.group_sizes.specs.Targets.{TargetsKnown}
-use Rattle.group_sizes.specs.Sizes.{total_size, Sized}
+use Rattle.group_sizes.specs.Sizes.{total_size, Measured}
 use Rattle.group_table.specs.Outputs.{Output, output, unfit_after, added, added_all, empty}
 use Rattle.inline_groups.specs.Inlinings.{inlined_or_unfit, by_fit, inlining, inlining_records}
 use Rattle.group_table.proofs.Totals.{inlined-size}
@@ -75,10 +73,10 @@ first-unfit xs = unfit-from xs (length xs) 0 xs (λ i. ap (λ (j : ℕ). get_or 
 
 -- ---- the answer
 
-module _ {rs : List Record} {targets sizes : List ℕ} (t : GroupsFirst rs) (y : TargetsKnown rs targets (length rs)) (z : Sized rs targets sizes (length rs)) where
+module _ {rs : List Record} {targets sizes : List ℕ} (y : Measured rs targets sizes) where
   module _ (h : 1600 < total_size sizes rs (length rs)) (b : List Record) where
     swollen : 1600 < length (inlined rs)
-    swollen = let e = inlined-size rs targets sizes t y z in omega arith
+    swollen = let e = inlined-size y in omega arith
 
     pub ret-swollen : (Err Swollen ≡ inlining (length b) (inlined rs)) × (b ≡ inlining_records b (inlined rs))
     unfolding inlining inlining_records
@@ -86,7 +84,7 @@ module _ {rs : List Record} {targets sizes : List ℕ} (t : GroupsFirst rs) (y :
 
   module _ (h : total_size sizes rs (length rs) ≤ 1600) (out₀ : List Record) where
     size : length (inlined rs) ≡ total_size sizes rs (length rs)
-    size = let e = inlined-size rs targets sizes t y z in omega arith
+    size = let e = inlined-size y in omega arith
 
     few : length (inlined rs) ≤ 1600
     few = let e = size in omega arith

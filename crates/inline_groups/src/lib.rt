@@ -6,6 +6,7 @@ ghost use Rattle.rules.specs.InlineGroups.{inlined};
 ghost use Rattle.group_sizes.specs.GroupsFirst.{GroupsFirst};
 ghost use Rattle.inline_groups.specs.Inlinings.{inlining, inlining_numbered, by_fit, inlining_records};
 
+use group_sizes::Groups;
 use group_table::ExpandProgress;
 use rules::limits::MOST_RECORDS;
 use rules::{FieldKey, Record};
@@ -28,27 +29,18 @@ fn by_fit(progress: ExpandProgress) -> Result<usize, InlineError>
     }
 }
 
-// Inlines the groups with arrays of the caller's: targets and sizes by place.
-fn inline_with(
-    table: &[Record],
-    targets: &mut [u16],
-    sizes: &mut [u16],
-    out: &mut [Record],
-) -> Result<usize, InlineError>
-    requires table_len_bound { (length table.now ≤ 1600) × (length table.now ≤ length targets.old) × (length table.now ≤ length sizes.old) }
-    requires groups_first { GroupsFirst table.now }
-    ensures { (result ≡ inlining (length out.old) (inlined table.now)) × (out.new ≡ inlining_records out.old (inlined table.now)) }
+// Inlines the groups of a table into a buffer, if the inlined table fits it.
+fn inline_with(groups: &Groups, out: &mut [Record]) -> Result<usize, InlineError>
+    ensures { (result ≡ inlining (length out.old) (inlined groups.now.table.now)) × (out.new ≡ inlining_records out.old (inlined groups.now.table.now)) }
 {
-    group_sizes::targets::fill(table, targets);
-    group_sizes::measure(table, targets, sizes);
-    let n = group_sizes::total(table, sizes);
+    let n = groups.total();
     if MOST_RECORDS < n {
         return Err(InlineError::Swollen);
     }
     if out.len() < n {
         return Err(InlineError::BufferShort);
     }
-    by_fit(group_table::write_all(table, targets, sizes, out))
+    by_fit(group_table::write_all(groups, out))
 }
 
 // Inlines the groups of a table in listed order into a buffer, if the inlined table fits it. Returns how many records it has.
@@ -58,7 +50,8 @@ pub fn inline_groups(table: &[Record], out: &mut [Record]) -> Result<usize, Inli
     ensures value { (result ≡ inlining (length out.old) (inlined table.now)) × (out.new ≡ inlining_records out.old (inlined table.now)) }
     ensures numbered { inlining_numbered result ≡ inlining_numbered (inlining (length out.old) (inlined table.now)) }
 {
-    let mut targets = [0u16; MOST_RECORDS];
-    let mut sizes = [0u16; MOST_RECORDS];
-    inline_with(table, &mut targets, &mut sizes, out)
+    let mut targets = [0; MOST_RECORDS];
+    let mut sizes = [0; MOST_RECORDS];
+    let groups = Groups::new(table, &mut targets, &mut sizes);
+    inline_with(&groups, out)
 }

@@ -1,37 +1,19 @@
 -- `group_sizes::size_after` meets its contract: what is counted and what is left make the whole. Assumes nothing.
-use Rattle.std.proofs.Common.{arith, sym, ◌∙◌, inl, inr}
-use Rattle.group_sizes.proofs.Fields.{Seen}
-use Rattle.group_sizes.proofs.Measures.{sizing-start, sizing-next, sizing-end, target-in}
+use Rattle.std.proofs.Common.{arith, ◌∙◌}
+use Rattle.group_sizes.proofs.Measures.{sizing-next, sizing-end, target-in}
 use Rattle.group_sizes.proofs.size_after.Goals as goal
-use Rattle.group_sizes.proofs.size_after.Goals.{After-is_constraint_or_condition-c}
 
--- the facts of a turn past its first tests
-seen : (c : After-is_constraint_or_condition-c) → Seen c.args.table.now c.loop-p.p c.kind-k.result c.is_constraint_or_condition-c.result
-seen c =
-    let e = c.kind-k.ensures in
-    record {
-      below = omega arith;
-      inside = rw (← e) (sym c.is_decl.ensures ∙ c.if-is_decl.false);
-      is-kind = e;
-      is_bound = rw (← e) c.is_constraint_or_condition-c.ensures;
-    }
+pub size_here-s-requires : goal.size_here-s-requires
+size_here-s-requires c =
+    let m = rw c.loop-member.invariant.0 at c.in-Some.ensures.steps.0 in
+    (omega (arith, m.below, c.requires.1.long), target-in c.args.sizes.now c.requires.1 c.requires.2 m)
 
-pub loop-p-init : goal.loop-p-init
-loop-p-init c = sizing-start _ _ _ _ c.requires.4
-
-pub returns-then-is_decl : goal.returns-then-is_decl
-returns-then-is_decl c =
-    sizing-end c.loop-p.invariant (inl (omega arith, rw (← c.kind-k.ensures) (sym c.is_decl.ensures ∙ c.if-is_decl.true)))
-
-pub size_here-x-requires : goal.size_here-x-requires
-size_here-x-requires c =
-    let h = seen (goal.at.size_here-x-requires c).After-is_constraint_or_condition-c in
-    (omega (arith, h.below, c.requires.1.long), target-in c.args.sizes.now c.requires.1 c.requires.2 h)
-
-pub loop-p-preserved : goal.loop-p-preserved
-loop-p-preserved c =
-    let h = seen (goal.at.loop-p-preserved c).After-is_constraint_or_condition-c in
-    sizing-next c.loop-p.invariant h (omega (arith, c.size_here-x.type_inv)) c.size_here-x.ensures
+pub loop-member-preserved : goal.loop-member-preserved
+loop-member-preserved c =
+    let s = c.in-Some.ensures.steps in
+    let v = c.loop-member.invariant in
+    let w = rw (← s.2) at v.1 in
+    (s.1 ∙ v.0, rw s.3 (sizing-next w (rw v.0 at s.0) c.size_here-s.ensures.0 c.size_here-s.ensures.1))
 
 pub returns : goal.returns
-returns c = sizing-end c.loop-p.invariant (inr (omega (arith, c.loop-p.auto.p-end)))
+returns c = let v = c.loop-member.invariant in sizing-end v.1 (rw v.0 at c.in-None.ensures.steps.0)

@@ -1,50 +1,51 @@
 -- `group_table::expand` meets its contract. The laws are in Expands. Assumes nothing.
-use Rattle.std.proofs.Common.{ℕ, ◌<◌, ◌≡◌, List, Bool, false, length, arith, sym, ◌∙◌, inl, inr}
-use Rattle.rules.specs.Table.{at}
-use Rattle.rules.specs.Kinds.{is_decl}
-use Rattle.rules.specs.InlineGroups.{is_constraint_or_condition}
-use Rattle.rules.specs.declared.Record.{Record}
-use Rattle.group_sizes.proofs.Fields.{Seen, seen-flag, seen-group, seen_other, seen-bound}
-use Rattle.group_table.proofs.Expands.{added-record, walk_start, walk_end, call-push, turn-empty, call-expand, turn-group, turn-lost, call-add, turn_one}
+use Rattle.std.proofs.Common.{refl}
+use Rattle.group_table.proofs.Expands.{walk_start, walk_end, step_in, step_out, call-push, turn-empty, call-expand, turn-group, turn-lost, call-add, turn_one}
 use Rattle.group_table.proofs.+expand.Goals as goal
-use Rattle.group_table.proofs.+expand.Goals.{then-k-eq-GROUP_FIELD+then-sizes-g-ne0, then-k-eq-GROUP_FIELD+else-sizes-g-ne0, else-k-eq-GROUP_FIELD+then-not-bound, else-k-eq-GROUP_FIELD+else-not-bound}
 
--- the facts of a turn past its first tests
-seen : {rs : List Record} {p k : ℕ} {i c : Bool} → p < length rs → k ≡ (at rs p).kind → i ≡ is_decl k → i ≡ false → c ≡ is_constraint_or_condition k → Seen rs p k c
-seen l k i f c = record { below = l; inside = rw (← k) (sym i ∙ f); is-kind = k; is_bound = rw (← k) c }
-
-pub loop-p-init : goal.loop-p-init
-loop-p-init t c = walk_start c.requires
-
-pub returns-then-is_decl : goal.returns-then-is_decl
-returns-then-is_decl t c =
-    walk_end c.requires c.loop-p.invariant (inl (omega arith, rw (← c.kind-k.ensures) (sym c.is_decl.ensures ∙ c.if-is_decl.true)))
+pub loop-place-init : goal.loop-place-init
+loop-place-init t c =
+    let n = c.new-place-items.ensures in
+    rw (c.into_iter-place-iterator.ensures.into_iter_gives, n.0, n.1) (refl, walk_start c.args.groups.now.measured c.requires)
 
 pub push_constraints-requires : goal.push_constraints-requires
 push_constraints-requires t c =
-    let h = seen (omega arith) c.kind-k.ensures c.is_decl.ensures c.if-is_decl.false c.is_constraint_or_condition-c.ensures in
-    call-push c.requires c.loop-p.invariant h.below h.inside (seen-flag h _) (seen-group h c.if-k-eq-GROUP_FIELD.true)
+    let w = step_in c.in-Some.ensures.steps c.loop-place.invariant in
+    call-push c.args.groups.now.measured c.requires w.0 w.1 c.if-kind-eq-GROUP_FIELD.true
 
 pub expand-s-requires : goal.expand-s-requires
 expand-s-requires t c =
-    let h = seen (omega arith) c.kind-k.ensures c.is_decl.ensures c.if-is_decl.false c.is_constraint_or_condition-c.ensures in
-    call-expand c.requires c.loop-p.invariant h.below h.inside (seen-flag h _) (seen-group h c.if-k-eq-GROUP_FIELD.true) c.push_constraints.ensures c.decreases
+    let w = step_in c.in-Some.ensures.steps c.loop-place.invariant in
+    rw c.from-g.ensures (call-expand c.args.groups.now.measured c.requires w.0 w.1 c.if-kind-eq-GROUP_FIELD.true c.push_constraints.ensures c.decreases)
+
+pub loop-place-preserved-then-groups-g-ne0 : goal.loop-place-preserved-then-groups-g-ne0
+loop-place-preserved-then-groups-g-ne0 t c =
+    let w = step_in c.in-Some.ensures.steps c.loop-place.invariant in
+    step_out c.in-Some.ensures.steps c.loop-place.invariant.0
+    (turn-group c.args.groups.now.measured c.requires w.0 w.1 c.if-kind-eq-GROUP_FIELD.true c.push_constraints.ensures (rw c.from-g.ensures at c.expand-s.ensures) (rw (c.truncate.ensures, c.len-top.ensures)) c.expand-s.auto.out)
+
+pub loop-place-preserved-else-groups-g-ne0 : goal.loop-place-preserved-else-groups-g-ne0
+loop-place-preserved-else-groups-g-ne0 t c =
+    let w = step_in c.in-Some.ensures.steps c.loop-place.invariant in
+    step_out c.in-Some.ensures.steps c.loop-place.invariant.0
+    (turn-empty c.args.groups.now.measured c.requires w.0 w.1 c.if-kind-eq-GROUP_FIELD.true (rw c.from-g.ensures at c.if-groups-g-ne0.false))
 
 pub add-s-requires : goal.add-s-requires
 add-s-requires t c =
-    let h = seen (omega arith) c.kind-k.ensures c.is_decl.ensures c.if-is_decl.false c.is_constraint_or_condition-c.ensures in
-    call-add c.requires c.loop-p.invariant h.below h.inside (seen-flag h _) (seen_other h c.if-k-eq-GROUP_FIELD.false) (seen-bound h _ _ c.if-not-bound.true)
+    let w = step_in c.in-Some.ensures.steps c.loop-place.invariant in
+    call-add c.args.groups.now.measured c.requires w.0 w.1 c.if-kind-eq-GROUP_FIELD.false c.if-not-bound.true
 
-pub loop-p-preserved : goal.loop-p-preserved
-loop-p-preserved t c =
-    let v = c.loop-p.invariant in
-    let h = seen (omega arith) c.kind-k.ensures c.is_decl.ensures c.if-is_decl.false c.is_constraint_or_condition-c.ensures in
-    elim c.if-k-eq-GROUP_FIELD.branch [
-      | then-k-eq-GROUP_FIELD+then-sizes-g-ne0 w ↦ rw (w.env-is, w.out-is, w.s-is) (turn-group c.requires v h.below h.inside (seen-flag h _) (seen-group h w.if-k-eq-GROUP_FIELD.true) w.push_constraints.ensures w.expand-s.ensures (rw (w.truncate.ensures, w.len-top.ensures)) w.expand-s.auto.out)
-      | then-k-eq-GROUP_FIELD+else-sizes-g-ne0 w ↦ rw (w.env-is, w.out-is, w.s-is) (turn-empty c.requires v h.below h.inside (seen-flag h _) (seen-group h w.if-k-eq-GROUP_FIELD.true) w.if-sizes-g-ne0.false)
-      | else-k-eq-GROUP_FIELD+then-not-bound w ↦ rw (w.env-is, w.out-is, w.s-is) (turn_one c.requires v h.below h.inside (seen-flag h _) (seen_other h w.if-k-eq-GROUP_FIELD.false) (seen-bound h _ _ w.if-not-bound.true) (added-record _ _ _ w.at-r.ensures (rw w.as_slice.ensures at w.inlined_record.ensures) w.add-s.ensures) w.add-s.auto.out)
-      | else-k-eq-GROUP_FIELD+else-not-bound w ↦ rw (w.env-is, w.out-is, w.s-is) (turn-lost c.requires v h.below h.inside (seen-flag h _) (seen_other h w.if-k-eq-GROUP_FIELD.false) (seen-bound h _ _ w.if-not-bound.false))
-    ]
+pub loop-place-preserved-then-not-bound : goal.loop-place-preserved-then-not-bound
+loop-place-preserved-then-not-bound t c =
+    let w = step_in c.in-Some.ensures.steps c.loop-place.invariant in
+    step_out c.in-Some.ensures.steps c.loop-place.invariant.0
+    (turn_one c.args.groups.now.measured c.requires w.0 w.1 c.if-kind-eq-GROUP_FIELD.false c.if-not-bound.true (rw (c.inlined_record.ensures, c.as_slice.ensures, c.at-r.ensures) at c.add-s.ensures) c.add-s.auto.out)
+
+pub loop-place-preserved : goal.loop-place-preserved
+loop-place-preserved t c =
+    let w = step_in c.in-Some.ensures.steps c.loop-place.invariant in
+    step_out c.in-Some.ensures.steps c.loop-place.invariant.0
+    (turn-lost c.args.groups.now.measured c.requires w.0 w.1 c.if-kind-eq-GROUP_FIELD.false c.if-not-bound.false)
 
 pub returns : goal.returns
-returns t c = walk_end c.requires c.loop-p.invariant (inr (omega (arith, c.loop-p.auto.p-end)))
+returns t c = let v = c.loop-place.invariant in walk_end c.args.groups.now.measured c.requires v.1 (rw v.0 at c.in-None.ensures.steps.0)

@@ -1,29 +1,17 @@
--- `inline_groups::inline_with` meets its contract: too many records, too few bytes for them, or the inlined table. Assumes nothing.
+-- `inline_groups::inline_with` meets its contract: too many records, too few in the buffer for them, or the inlined table. Assumes nothing.
 use Rattle.inline_groups.proofs.Wholes.{ret-swollen, ret-buffer-short, ret-fits}
 use Rattle.inline_groups.proofs.inline_with.Goals as goal
 
 pub returns-then-n-gt-MOST_RECORDS : goal.returns-then-n-gt-MOST_RECORDS
 returns-then-n-gt-MOST_RECORDS c =
-    ret-swollen c.requires.groups_first c.fill.ensures c.measure.ensures (rw c.total-n.ensures at c.if-n-gt-MOST_RECORDS.true) c.args.out.now
+    ret-swollen c.args.groups.now.measured (rw c.total-n.ensures at c.if-n-gt-MOST_RECORDS.true) c.args.out.now
 
 pub returns-then-out-n : goal.returns-then-out-n
 returns-then-out-n c =
     let e = c.total-n.ensures in
-    ret-buffer-short c.requires.groups_first c.fill.ensures c.measure.ensures (rw e at c.if-n-gt-MOST_RECORDS.false) c.args.out.now (rw e at c.if-out-n.true)
-
-pub write_all-requires : goal.write_all-requires
-write_all-requires c =
-    let e = c.total-n.ensures in
-    record {
-      room_for_inlined = record {
-        known = record { few = c.requires.table_len_bound.0; groups = c.requires.groups_first; resolved = c.fill.ensures; sized = c.measure.ensures };
-        wide = rw e at c.if-out-n.false;
-      };
-      table_bound = rw e at c.if-n-gt-MOST_RECORDS.false;
-    }
+    ret-buffer-short c.args.groups.now.measured (rw e at c.if-n-gt-MOST_RECORDS.false) c.args.out.now (rw e at c.if-out-n.true)
 
 pub returns : goal.returns
 returns c =
     let e = c.total-n.ensures in
-    ret-fits c.requires.groups_first c.fill.ensures c.measure.ensures (rw e at c.if-n-gt-MOST_RECORDS.false) c.args.out.now (rw e at c.if-out-n.false)
-    c.write_all.ensures c.by_fit.ensures
+    ret-fits c.args.groups.now.measured (rw e at c.if-n-gt-MOST_RECORDS.false) c.args.out.now (rw e at c.if-out-n.false) c.write_all.ensures c.by_fit.ensures
