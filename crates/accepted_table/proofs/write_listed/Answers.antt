@@ -4,16 +4,16 @@ use Rattle.rules.specs.InlineGroups.{inlined}
 use Rattle.rules.specs.Replies.{answered, by_size}
 use Rattle.accepted_table.proofs.Laws.{wrote-done, wrote-again, wrote-or}
 use Rattle.accepted_table.proofs.write_listed.Goals as goal
-use Rattle.accepted_table.proofs.write_listed.Goals.{then-count-le-FEW_RECORDS+in_default, else-count-le-FEW_RECORDS}
+use Rattle.accepted_table.proofs.write_listed.Goals.{then-listed-le-FEW_RECORDS+in_default, else-listed-le-FEW_RECORDS}
 
 pub returns-in-Some : goal.returns-in-Some
 returns-in-Some c = wrote-done _ _ _ _ _ c.write_in.ensures _ c.in-Some.is
 
 pub returns : goal.returns
 returns c =
-    let large : (f : List ℕ) → answered c.unwrap_or.result c.write_in-2.new.table f ≡ by_size (inlined c.args.listed.now) c.if-count-le-FEW_RECORDS.table f =
+    let large : (f : List ℕ) → answered c.unwrap_or.result c.write_in-2.new.table f ≡ by_size (inlined c.args.listed.now) c.if-listed-le-FEW_RECORDS.table f =
     rw c.unwrap_or.ensures (wrote-or _ _ _ _ _ c.write_in-2.ensures (omega arith) _) in
-    elim c.if-count-le-FEW_RECORDS.branch [
-      | then-count-le-FEW_RECORDS+in_default w ↦ wrote-again _ _ _ _ _ w.write_in.ensures _ w.in_default.is (rw w.table-is at large)
-      | else-count-le-FEW_RECORDS w ↦ rw w.table-is at large
+    elim c.if-listed-le-FEW_RECORDS.branch [
+      | then-listed-le-FEW_RECORDS+in_default w ↦ wrote-again _ _ _ _ _ w.write_in.ensures _ w.in_default.is (rw w.table-is at large)
+      | else-listed-le-FEW_RECORDS w ↦ rw w.table-is at large
     ]

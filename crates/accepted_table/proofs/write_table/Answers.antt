@@ -15,6 +15,21 @@ fits-few : (c : In-Ok) → (c.in-Ok.n ≤ 1600) × (c.in-Ok.n ≡ length (inline
 fits-few c =
     inlined-few c.args.listed.now c.args.expanded.now c.inline_groups.ensures.value.0 c.inline_groups.ensures.value.1 _ c.in-Ok.is
 
+pub slice_bounds-desugar_flags-end : goal.slice_bounds-desugar_flags-end
+slice_bounds-desugar_flags-end c =
+    let few = fits-few (goal.at.slice_bounds-desugar_flags-end c).In-Ok in
+    omega (arith, few.2, c.inline_groups.auto.out)
+
+pub slice_bounds-desugar_flags-end-in-Ok : goal.slice_bounds-desugar_flags-end-in-Ok
+slice_bounds-desugar_flags-end-in-Ok c =
+    let few = fits-few (goal.at.slice_bounds-desugar_flags-end-in-Ok c).In-Ok in
+    sym (length-take-le _ _ (omega (arith, few.2, c.inline_groups.auto.out)))
+
+pub desugar_flags-requires : goal.desugar_flags-requires
+desugar_flags-requires c =
+    let few = fits-few (goal.at.desugar_flags-requires c).In-Ok in
+    omega (arith, few.0, length-take-le c.in-Ok.n c.inline_groups.new.out (omega (arith, few.2, c.inline_groups.auto.out)))
+
 pub returns-in-Err-Swollen : goal.returns-in-Err-Swollen
 returns-in-Err-Swollen c = told-swollen _ _ c.inline_groups.ensures.value.0 _ (rw c.in-Err-Swollen.field-0-is at c.in-Err-Swollen.is)
 
