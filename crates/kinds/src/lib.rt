@@ -87,105 +87,105 @@ pub const PADDINGS: u64 = 1u64 << PADDING;
 pub fn is_decl(kind: u8) -> bool
     ensures { result ≡ is_decl kind }
 {
-    (CHECKSUM <= kind) & (kind <= TEST)
+    matches!(kind, CHECKSUM..=TEST)
 }
 
 pub fn is_named_decl(kind: u8) -> bool
     ensures { result ≡ is_named_decl kind }
 {
-    (CHECKSUM <= kind) & (kind <= GROUP)
+    matches!(kind, CHECKSUM..=GROUP)
 }
 
 pub fn is_packet_or_struct(kind: u8) -> bool
     ensures { result ≡ is_packet_or_struct kind }
 {
-    (PACKET <= kind) & (kind <= STRUCT)
+    matches!(kind, PACKET..=STRUCT)
 }
 
 pub fn holds_fields(kind: u8) -> bool
     ensures { result ≡ holds_fields kind }
 {
-    (PACKET <= kind) & (kind <= GROUP)
+    matches!(kind, PACKET..=GROUP)
 }
 
 pub fn is_field(kind: u8) -> bool
     ensures { result ≡ is_field kind }
 {
-    (CHECKSUM_FIELD <= kind) & (kind <= GROUP_FIELD)
+    matches!(kind, CHECKSUM_FIELD..=GROUP_FIELD)
 }
 
 pub fn is_named_field(kind: u8) -> bool
     ensures { result ≡ is_named_field kind }
 {
-    (ARRAY <= kind) & (kind <= TYPEDEF)
+    matches!(kind, ARRAY..=TYPEDEF)
 }
 
-// An array, a Typedef or a Group field.
+// An array, a Typedef or a Group field. One pattern of kinds that are apart would be compiled to a table.
 pub fn may_refer(kind: u8) -> bool
     ensures { result ≡ may_refer kind }
 {
-    (kind == ARRAY) | ((TYPEDEF <= kind) & (kind <= GROUP_FIELD))
+    (kind == ARRAY) | matches!(kind, TYPEDEF | GROUP_FIELD)
 }
 
 pub fn is_condition_or_entry(kind: u8) -> bool
     ensures { result ≡ is_condition_or_entry kind }
 {
-    (kind == CONDITION) | (kind == FLAG_ENTRY)
+    matches!(kind, CONDITION | FLAG_ENTRY)
 }
 
 pub fn is_size(kind: u8) -> bool
     ensures { result ≡ is_size kind }
 {
-    (SIZE <= kind) & (kind <= ELEMENT_SIZE)
+    matches!(kind, SIZE..=ELEMENT_SIZE)
 }
 
 pub fn is_size_or_count(kind: u8) -> bool
     ensures { result ≡ is_size_or_count kind }
 {
-    (SIZE <= kind) & (kind <= COUNT)
+    matches!(kind, SIZE..=COUNT)
 }
 
 pub fn is_payload(kind: u8) -> bool
     ensures { result ≡ is_payload kind }
 {
-    (BODY <= kind) & (kind <= PAYLOAD)
+    matches!(kind, BODY..=PAYLOAD)
 }
 
 pub fn is_tag(kind: u8) -> bool
     ensures { result ≡ is_tag kind }
 {
-    (TAG_VALUE <= kind) & (kind <= DEFAULT_TAG)
+    matches!(kind, TAG_VALUE..=DEFAULT_TAG)
 }
 
 // A tag that stands in no range.
 pub fn is_outer_tag(kind: u8) -> bool
     ensures { result ≡ is_outer_tag kind }
 {
-    (kind == TAG_VALUE) | ((kind == TAG_RANGE) | (kind == DEFAULT_TAG))
+    (kind == TAG_VALUE) | matches!(kind, TAG_RANGE | DEFAULT_TAG)
 }
 
 pub fn is_value(kind: u8) -> bool
     ensures { result ≡ is_value kind }
 {
-    (kind == TAG_VALUE) | (kind == INNER_VALUE)
+    matches!(kind, TAG_VALUE | INNER_VALUE)
 }
 
 // Flags and their entries are written only.
 pub fn is_written_only(kind: u8) -> bool
     ensures { result ≡ is_written_only kind }
 {
-    (kind == FLAG_ENTRY) | (kind == FLAG)
+    matches!(kind, FLAG_ENTRY | FLAG)
 }
 
 pub fn is_constraint_or_condition(kind: u8) -> bool
     ensures { result ≡ is_constraint_or_condition kind }
 {
-    (kind == CONSTRAINT) | (kind == CONDITION)
+    matches!(kind, CONSTRAINT | CONDITION)
 }
 
 // Every declaration but a group stays.
 pub fn is_kept(kind: u8) -> bool
     ensures { result ≡ is_kept kind }
 {
-    is_decl(kind) & !(kind == GROUP)
+    is_decl(kind) & (kind != GROUP)
 }
