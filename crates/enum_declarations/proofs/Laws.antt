@@ -1,17 +1,22 @@
 -- Laws of pass 4: how many faults there can be, and what a turn of each loop adds. Assumes nothing.
 use Rattle.std.proofs.Common.{None, Option, Some, ℕ}
 use Prim.Native.Nat.{ℕ, zero, suc, ◌+◌, ◌-◌, ◌*◌, ◌<◌, ◌≤◌}
-use mathlib.Core.Path.{◌≡◌, refl}
+use mathlib.Core.Path.{◌≡◌, refl, sym, ◌∙◌}
 use mathlib.Core.List.{List, []}
 use native.Mathlib.Omega.{arith}
 use native.Mathlib.Nat.{le_trans}
-use borrow.Author.Tests.{ne_eqb}
+use borrow.Author.Tests.{ne_eqb, eq-eqb}
 use lib.Dec.{eqb}
+use mathlib.Core.Bool.{false}
+use Rattle.table.proofs.Searches.{false-true}
+use Rattle.rules.specs.Kinds.{is}
+use Rattle.std.proofs.lemmas.List.Folds.{list_any_at}
+use Rattle.std.specs.List.{list_any}
 use lib.ListN.{length, get_or, length-append}
-use Rattle.rules.specs.Table.{at}
+use Rattle.rules.specs.Table.{at, blank}
 use Rattle.rules.specs.Places.{first, each, holds_at, up_to, member_count}
 use Rattle.rules.specs.Sorts.{sorted}
-use Rattle.rules.specs.EnumDeclarations.{tag_faults, tags_faults, range_at, ranges, before_at, overlap, overlaps, enum_faults, pass4_at}
+use Rattle.rules.specs.EnumDeclarations.{tag_faults, tags_faults, range_at, ranges, before_at, overlap, overlaps, enum_faults, pass4_at, pass4}
 use Rattle.rules.specs.declared.Record.{Record}
 use Rattle.rules.specs.declared.Target.TheVariants.{Decl}
 use Rattle.table.proofs.Laws.{each-few, first-in, if-few, when-few}
@@ -53,7 +58,11 @@ unfolding pass4_at
 place-few rs h d = if-few (eqb (at rs d).kind 3) _ _ 3000000 (enum-few rs d (member_count rs d) (le_trans (count-few rs d) h)) (omega arith)
 
 -- a table without an enum
-pub none_below : (rs : List Record) (n : ℕ) → ((d : ℕ) → d < n → (at rs d).kind ≡ 3 → ⊥) → each (pass4_at rs) n ≡ []
+none_below : (rs : List Record) (n : ℕ) → ((d : ℕ) → d < n → (at rs d).kind ≡ 3 → ⊥) → each (pass4_at rs) n ≡ []
 unfolding each pass4_at
 none_below rs zero h = refl
 none_below rs (suc n) h = rw (none_below rs n (λ d l. h d (omega arith)), ne_eqb _ _ (h n (omega arith)))
+
+pub none-at-all : (rs : List Record) → list_any (is 3) rs ≡ false → pass4 rs ≡ []
+unfolding pass4 at
+none-at-all rs e = none_below rs (length rs) (λ d h k. false-true (sym e ∙ list_any_at (is 3) rs d blank h (eq-eqb _ _ k)))

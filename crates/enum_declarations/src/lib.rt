@@ -1,16 +1,17 @@
 // Pass 4, `check_enum_declarations`: the tags of each enum.
 #![tactic(auto)]
 
-ghost use Rattle.std.specs.Prelude.{◌≡◌, ◌+◌, ◌^◌, ◌<◌, ◌≤◌, [], false, length};
+ghost use Rattle.std.specs.Prelude.{◌≡◌, ◌+◌, ◌^◌, ◌<◌, ◌≤◌, length};
+ghost use Rattle.std.specs.List.{list_any};
+ghost use Rattle.rules.specs.Kinds.{is, enum};
 ghost use Rattle.rules.specs.Faults.{log, logged};
 ghost use Rattle.rules.specs.EnumDeclarations.{tags_faults, enum_faults, pass4_at, pass4};
 ghost use Rattle.faults.specs.Notes.{noted_all};
 
-use enum_bounds::RangeBounds;
 use enum_tags::{EnumTags, MarkedTags};
 use repeats::marks::Compared;
-use rules::{Record, Tally};
 use rules::limits::MOST_RECORDS;
+use rules::{Record, Tally};
 
 // Room for the places of the ranges of an enum, and for their bounds.
 #[derive(Drop)]
@@ -27,8 +28,7 @@ fn note_tags(tags: &EnumTags, tally: Tally, buffer: &mut [u8]) -> Tally
 {
     let mut kept = tally;
     let mut after = tags.decl + 1;
-    for i in 0..tags.count {
-        let p = tags.decl + 1 + i;
+    for p in tags.decl + 1..tags.decl + 1 + tags.count {
         kept = enum_tags::note_tag(tags, after, p, kept, buffer);
         after = enum_tags::after_range(tags.marked.table, after, p);
     }
@@ -47,7 +47,7 @@ fn note_enum(
     requires { (decl + 1 + count ≤ 1600) × (tally.total + 4000000 < 2 ^ 64) }
     ensures { log result buffer.new ≡ noted_all (log tally buffer.old) (enum_faults marked.now.table.now decl count) }
 {
-    let m = enum_ranges::arrange(
+    let (places, bounds) = enum_ranges::arrange(
         marked.table,
         decl,
         count,
@@ -56,10 +56,6 @@ fn note_enum(
         &mut room.highs,
     );
     let marked = *marked;
-    let bounds = RangeBounds {
-        lows: &room.lows[..m],
-        highs: &room.highs[..m],
-    };
     let tags = EnumTags {
         marked,
         decl,
@@ -67,10 +63,11 @@ fn note_enum(
         bounds,
     };
     let kept = note_tags(&tags, tally, buffer);
-    enum_ranges::overlaps::note_overlaps(marked.table, &room.places[..m], kept, buffer)
+    enum_ranges::overlaps::note_overlaps(marked.table, places, kept, buffer)
 }
 
 // What stands at `decl`, if it is an enum.
+#[tactic(auto, unfolding(rules::specs::EnumDeclarations::pass4_at))]
 fn note_place(
     marked: &MarkedTags,
     decl: usize,
@@ -102,9 +99,9 @@ fn note_enums(marked: &MarkedTags, room: &mut Room, buffer: &mut [u8]) -> Tally
 
 // Whether there is an enum at all.
 fn has_enum(table: &[Record]) -> bool
-    ensures { result ≡ false → pass4 table.now ≡ [] }
+    ensures { result ≡ list_any (is enum) table.now }
 {
-    (0..table.len()).any(|d| table::kind(table, d) == kinds::ENUM)
+    table.iter().any(|r| r.kind == kinds::ENUM)
 }
 
 // All faults of pass 4, with arrays for the longest table.
@@ -112,8 +109,8 @@ fn check_all(table: &[Record], buffer: &mut [u8]) -> Tally
     requires { length table.now ≤ 1600 }
     ensures { log result buffer.new ≡ logged buffer.old (pass4 table.now) }
 {
-    let mut names = [1u8; MOST_RECORDS];
-    let mut values = [1u8; MOST_RECORDS];
+    let mut names = [true; MOST_RECORDS];
+    let mut values = [true; MOST_RECORDS];
     let mut room = Room {
         places: [0; MOST_RECORDS],
         lows: [0; MOST_RECORDS],

@@ -23,4 +23,4 @@ loop-d-preserved c =
 pub returns : goal.returns
 unfolding pass4
 returns c =
-    noted-end _ _ c.loop-d.invariant (search rules) c.loop-d-test.false c.count-d-end.ensures ∙ noted-logged _ _
+    noted-end _ _ c.loop-d.invariant (search rules) c.loop-d-test.false refl ∙ noted-logged _ _
