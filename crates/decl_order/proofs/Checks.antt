@@ -15,7 +15,7 @@ use Rattle.faults.specs.Notes.{no_faults}
 use Rattle.faults.proofs.Laws.{noted-logged, total-after, logged_none}
 use Rattle.decl_visits.specs.declared.VisitProgress.{VisitProgress}
 use Rattle.std.specs.Prelude.{Ok, Err}
-use Rattle.decl_visits.specs.Contract.{StateHeld}
+use Rattle.decl_visits.specs.Contract.{started, StateHeld}
 use Rattle.decl_visits.proofs.Loop.{order-read, order-short}
 use Rattle.decl_order.specs.Contract.{Placed, DeclIdentifiersChecked}
 use Rattle.decl_order.proofs.Promise.{listed-declared}
@@ -29,7 +29,7 @@ some-found : (fs : List Fault) → 0 < length fs → fs ≡ [] → ⊥
 some-found fs l e = let z = ap length e in omega arith
 
 -- what the visits leave
-module _ (rs : List Record) (o₀ f₀ m o f : List ℕ) (a : VisitProgress) (h : StateHeld rs o₀ f₀ (visited rs) m o f a) where
+module _ (rs : List Record) {f₀ f : List ℕ} {a : VisitProgress} (h : StateHeld rs started f₀ (visited rs) a f) where
   faults-logged : log a.tally f ≡ logged f₀ (pass2 rs)
   unfolding pass2
   faults-logged = h.faults_are ∙ noted-logged f₀ (map (fault_of rs) (visited rs).faults)
@@ -41,13 +41,9 @@ module _ (rs : List Record) (o₀ f₀ m o f : List ℕ) (a : VisitProgress) (h 
   pub ret-faulty : (out : List Record) → 0 < a.tally.total → DeclIdentifiersChecked rs f₀ out f out (Err a.tally)
   ret-faulty out l = ((λ e. some-found (pass2 rs) (omega (arith, total-is)) e), faults-logged, refl)
 
-  module _ (z : a.tally.total ≤ 0) (few : length rs ≤ 1600) (room : length rs ≤ length o₀) where
+  module _ (z : a.tally.total ≤ 0) (few : length rs ≤ 1600) where
     accepts : Accepts rs
     accepts = none_found (pass2 rs) (omega (arith, total-is))
-
-    places_are : take a.listed o ≡ order rs
-    unfolding order
-    places_are = order-read rs o₀ f₀ m o f a few room h
 
     -- no fault is kept, and none found
     clean-logged : log no_faults f ≡ logged f₀ (pass2 rs)
@@ -55,28 +51,32 @@ module _ (rs : List Record) (o₀ f₀ m o f : List ℕ) (a : VisitProgress) (h 
         let e = logged_none f₀ (pass2 rs) (omega (arith, total-is)) in
         ap (λ (l : Log). log no_faults l.buffer) (faults-logged ∙ e) ∙ sym e
 
-    pub listed-short : length o ≡ length o₀ → a.listed ≤ length o
-    listed-short lo = omega (arith, order-short rs few, h.listed_is)
+    pub listed-short : a.listed ≤ 1600
+    listed-short = omega (arith, order-short rs few, h.listed_is)
 
-    pub call-copy : (out : List Record) → length rs ≤ length out → Placed rs (take a.listed o) out
-    unfolding ordered
-    call-copy out l = record {
-      within = λ d i. (listed-declared rs accepts d (subst (λ (x : List ℕ). Memᴰ d x) places_are i)).0;
-      fits = rw places_are (omega (arith, ordered-short rs accepts));
-    }
+    module _ {l : List ℕ} (e : l ≡ take a.listed a.places) where
+      is-order : l ≡ order rs
+      unfolding order
+      is-order = e ∙ order-read rs f₀ a f few h
 
-    pub ret-copied : (out out' : List Record) (n : ℕ) → (n ≡ length (all_records rs (take a.listed o))) × (out' ≡ all_records rs (take a.listed o) ++ drop n out)
-        → DeclIdentifiersChecked rs f₀ out f out' (Ok n)
-    unfolding ordered
-    ret-copied out out' n e =
-        let made : out' ≡ ordered rs ++ drop n out = rw places_are at e.1 in
-        let count : n ≡ length (ordered rs) = rw places_are at e.0 in (
-          accepts,
-          clean-logged,
-          record {
-            count = count;
-            short = omega (arith, count, ordered-short rs accepts);
-            records = rw made (take_at (ordered rs) (drop n out) n (sym count));
-            rest = rw made (drop_at (ordered rs) (drop n out) n (sym count));
-          },
-        )
+      pub call-copy : (out : List Record) → length rs ≤ length out → Placed rs l out
+      unfolding ordered
+      call-copy out w = record {
+        within = λ d i. (listed-declared rs accepts d (subst (λ (x : List ℕ). Memᴰ d x) is-order i)).0;
+        fits = rw is-order (omega (arith, ordered-short rs accepts));
+      }
+
+      pub ret-copied : {out out' : List Record} {n : ℕ} → (n ≡ length (all_records rs l)) × (out' ≡ all_records rs l ++ drop n out) → DeclIdentifiersChecked rs f₀ out f out' (Ok n)
+      unfolding ordered
+      ret-copied {out} {out'} {n} c =
+          let made : out' ≡ ordered rs ++ drop n out = rw is-order at c.1 in
+          let count : n ≡ length (ordered rs) = rw is-order at c.0 in (
+            accepts,
+            clean-logged,
+            record {
+              count = count;
+              short = omega (arith, count, ordered-short rs accepts);
+              records = rw made (take_at (ordered rs) (drop n out) n (sym count));
+              rest = rw made (drop_at (ordered rs) (drop n out) n (sym count));
+            },
+          )

@@ -5,8 +5,8 @@ ghost use Rattle.std.specs.Prelude.{◌≡◌, ◌++◌, ◌≤◌, length, drop
 ghost use Rattle.rules.specs.DeclIdentifiers.{all_records};
 ghost use Rattle.decl_order.specs.Contract.{Placed, DeclIdentifiersChecked};
 
+use decl_visits::VisitProgress;
 use declarations::Names;
-use rules::limits::MOST_RECORDS;
 use rules::{Record, Tally};
 
 // Copies the records of the declarations at these places to the start of out. Returns how many records they are.
@@ -29,15 +29,13 @@ fn order_from(names: &Names, buffer: &mut [u8], out: &mut [Record]) -> Result<us
     requires { (length names.now.table.now ≤ 1600) × (length names.now.table.now ≤ length out.old) }
     ensures { DeclIdentifiersChecked names.now.table.now buffer.old out.old buffer.new out.new result }
 {
-    let n = names.table.len();
-    let mut marks = [0u8; MOST_RECORDS];
-    let mut places = [0u16; MOST_RECORDS];
-    let a = decl_visits::visit_all(names, &mut marks[..n], &mut places, buffer);
+    let mut a = VisitProgress::new();
+    decl_visits::visit_all(names, &mut a, buffer);
     let tally = a.tally;
     if 0 < tally.total {
         return Err(tally);
     }
-    Ok(copy_listed(names.table, &places[..a.listed], out))
+    Ok(copy_listed(names.table, a.order(), out))
 }
 
 // Pass 2: its faults, or how many records are listed; they then stand at the start of out, all others of its records unchanged.

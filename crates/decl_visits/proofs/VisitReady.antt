@@ -3,12 +3,12 @@ use mathlib.Core.Path.{◌≡◌, refl, sym, ◌∙◌, ap}
 use mathlib.Core.Bool.{Bool, true, false, ◌&&◌}
 use mathlib.Core.List.{List, [], ◌∷◌, ◌++◌, map, map-append}
 use Prim.Native.Nat.{ℕ, zero, suc, ◌+◌, ◌*◌, ◌-◌, ◌<◌, ◌≤◌}
-use native.Mathlib.Nat.{lt-suc_self, add-zero, zero-add}
+use native.Mathlib.Nat.{add-zero, zero-add}
 use native.Mathlib.Omega.{arith}
 use borrow.Author.Tests.{ne_eqb}
 use lib.Dec.{eqb}
-use lib.ListN.{length, get_or, set, length-append, length-set, length-map}
-use lib.Seq.{sets}
+use lib.ListN.{length, get_or, set, take, drop, length-append, length-set, length-map}
+use lib.Seq.{sets, get_or-take, take-set-lt}
 use Rattle.std.specs.Prelude.{if◌then◌else◌, None, Option, Some, ℕ}
 use Rattle.rules.specs.Kinds as kind
 use Rattle.rules.specs.Kinds.{is, is_decl, may_refer, is_named_decl, is_packet_or_struct}
@@ -18,20 +18,18 @@ use Rattle.rules.specs.Faults.{single, log}
 use Rattle.rules.specs.Visits.{State, mark_of, opened, faulted, listed, resolve, walk, enter, visit}
 use Rattle.rules.specs.DeclIdentifiers.{group_reference, type_reference, parent_reference, test_reference, field_reference, own_reference, root_reference, field_references, references, fault_of}
 use Rattle.rules.specs.declared.Record.{Record}
-use Rattle.rules.specs.declared.Tally.{Tally}
 use Rattle.rules.specs.declared.Target.TheVariants.{DeclNamed}
 use Rattle.rules.specs.declared.Reference.{Reference}
 use Rattle.rules.specs.declared.Reference.TheVariants.{Nowhere, Wrong, Follow}
-use Rattle.faults.specs.Notes as notes
 use Rattle.faults.specs.Notes.{no_faults}
 use Rattle.faults.proofs.Laws.{noted-then, noted_one, total-after}
-use Rattle.table.proofs.Laws.{first-in}
+use Rattle.table.proofs.Laws.{first-in, same-default}
 use Rattle.table.proofs.Searches.{false-true}
 use Rattle.decl_visits.specs.declared.VisitProgress.{VisitProgress}
-use Rattle.decl_visits.specs.Contract.{unvisited_count, StateHeld, VisitReady, Within, Visited, Walked}
-use Rattle.decl_visits.proofs.Growth.{Growth, unvisited-opened, get_d_any, resolve-growth, walk-growth, visit-growth, fields-one, fields-decl, fields-past, fields-length, references-length}
+use Rattle.decl_visits.specs.Contract.{unvisited_count, unvisited_in, listing, Noted, StateHeld, VisitReady, Within, Steps, taken_up, walked, Visited, Walked}
+use Rattle.decl_visits.proofs.Growth.{Growth, unvisited-opened, resolve-growth, walk-growth, visit-growth, fields-one, fields-decl, fields-past, fields-length, references-length}
 
--- ---- how each step of the code changes the state that the slices hold
+-- ---- how each step of the code changes the state that is held
 
 -- one more place goes behind those that are listed
 sets_more : (l o : List ℕ) (i d : ℕ) → sets o i (l ++ d ∷ []) ≡ set (sets o i l) (i + length l) d
@@ -40,43 +38,65 @@ sets_more (x ∷ l) o i d =
     let e : suc i + length l ≡ i + suc (length l) = omega arith in
     rw (← e) (sets_more l (set o i x) (suc i) d)
 
--- what a fault more leaves: the places as they were, and the fault noted
-abbrev Noted : List Record → List ℕ → VisitProgress → ℕ → ℕ → List ℕ → VisitProgress → Type 0
-Noted rs f a c p f' b = (b.listed ≡ a.listed) × (log b.tally f' ≡ notes.noted (log a.tally f) (single c (at rs p)))
+drop-set : (n : ℕ) (l : List ℕ) (i v : ℕ) → i < n → drop n (set l i v) ≡ drop n l
+drop-set zero l i v h = absurd (omega arith)
+drop-set (suc n) [] i v h = refl
+drop-set (suc n) (x ∷ l) zero v h = refl
+drop-set (suc n) (x ∷ l) (suc i) v h = drop-set n l i v (omega arith)
 
-module _ (rs : List Record) (o₀ f₀ : List ℕ) (s : State) (m o f : List ℕ) (a : VisitProgress) (h : StateHeld rs o₀ f₀ s m o f a) where
-  held-open : (d : ℕ) → StateHeld rs o₀ f₀ (opened d s) (set m d 1) o f a
-  held-open d = record {
-    marks_are = ap (λ (l : List ℕ). set l d 1) h.marks_are;
-    places_are = h.places_are;
-    listed_is = h.listed_is;
-    faults_are = h.faults_are;
+-- the declaration at d is being visited
+abbrev pub opening : ℕ → VisitProgress → VisitProgress
+opening d a = record { marks = set a.marks d 1; places = a.places; listed = a.listed; tally = a.tally }
+
+module _ (rs : List Record) (a₀ : VisitProgress) (f₀ : List ℕ) (s : State) (a : VisitProgress) (f : List ℕ) (h : StateHeld rs a₀ f₀ s a f) where
+  held-note : (c p : ℕ) (a' : VisitProgress) (f' : List ℕ) → Noted rs a f c p a' f' → StateHeld rs a₀ f₀ (faulted c p s) a' f'
+  held-note c p a' f' e = record {
+    marks_are = ap (take (length rs)) e.marks ∙ h.marks_are;
+    marks_rest = ap (drop (length rs)) e.marks ∙ h.marks_rest;
+    places_are = e.places ∙ h.places_are;
+    listed_is = e.listed ∙ h.listed_is;
+    faults_are = rw map-append (noted-then (log no_faults f₀) (map (fault_of rs) s.faults) (single c (at rs p) ∷ []) h.faults_are (e.faults ∙ noted_one (log a.tally f) (single c (at rs p))));
   }
 
-  held-note : (c p : ℕ) (f' : List ℕ) (b : VisitProgress) → Noted rs f a c p f' b → StateHeld rs o₀ f₀ (faulted c p s) m o f' b
-  held-note c p f' b e = record {
-    marks_are = h.marks_are;
-    places_are = h.places_are;
-    listed_is = e.0 ∙ h.listed_is;
-    faults_are = rw map-append (noted-then (log no_faults f₀) (map (fault_of rs) s.faults) (single c (at rs p) ∷ []) h.faults_are (e.1 ∙ noted_one (log a.tally f) (single c (at rs p))));
-  }
-
-  held-list : (d : ℕ) (b : VisitProgress) → b.listed ≡ a.listed + 1 → b.tally ≡ a.tally → StateHeld rs o₀ f₀ (listed d s) (set m d 2) (set o a.listed d) f b
-  held-list d b e n = record {
-    marks_are = ap (λ (l : List ℕ). set l d 2) h.marks_are;
-    places_are = rw (h.listed_is, h.places_are, sets_more, zero-add);
-    listed_is = simp length-append (omega arith);
-    faults_are = ap (λ (t : Tally). log t f) n ∙ h.faults_are;
-  }
-
-  held-total : a.tally.total ≡ length s.faults
+  pub held-total : a.tally.total ≡ length s.faults
   held-total = total-after no_faults f₀ (map (fault_of rs) s.faults) h.faults_are ∙ zero-add _ ∙ length-map s.faults (fault_of rs)
 
-module _ (rs : List Record) (m o f : List ℕ) (a : VisitProgress) where
-  relax : (x y x' y' : ℕ) → x' ≤ x → y' ≤ y → VisitReady rs m o f a x y → VisitReady rs m o f a x' y'
-  relax x y x' y' p q h = record {
+  module _ {d : ℕ} (l : d < length rs) where
+    held-open : StateHeld rs a₀ f₀ (opened d s) (opening d a) f
+    held-open = record {
+      marks_are = take-set-lt (length rs) a.marks d 1 l ∙ ap (λ (x : List ℕ). set x d 1) h.marks_are;
+      marks_rest = drop-set (length rs) a.marks d 1 l ∙ h.marks_rest;
+      places_are = h.places_are;
+      listed_is = h.listed_is;
+      faults_are = h.faults_are;
+    }
+
+    held-list : StateHeld rs a₀ f₀ (listed d s) (listing d a) f
+    held-list = record {
+      marks_are = take-set-lt (length rs) a.marks d 2 l ∙ ap (λ (x : List ℕ). set x d 2) h.marks_are;
+      marks_rest = drop-set (length rs) a.marks d 2 l ∙ h.marks_rest;
+      places_are = rw (h.listed_is, h.places_are, sets_more, zero-add);
+      listed_is = let e = h.listed_is in simp length-append (omega arith);
+      faults_are = h.faults_are;
+    }
+
+-- ---- what a step leaves
+
+module _ (rs : List Record) (few : length rs ≤ 1600) where
+  visits-grow : (k d : ℕ) (s : State) → Growth s (visit k (references rs) d s) 1
+  visits-grow k = visit-growth (references rs) (λ d. references-length rs d few) k
+
+  pub visit-grows : (r : Reference) (k : ℕ) (s : State) → Growth s (taken_up rs r k s) 1
+  visit-grows r k s = resolve-growth (visit k (references rs)) (visits-grow k) r s
+
+  walk-grows : (p k : ℕ) (s : State) → Growth s (walked rs p k s) (length (field_references rs p (length rs - p)))
+  walk-grows p k s = walk-growth (visit k (references rs)) (visits-grow k) (field_references rs p (length rs - p)) s
+
+module _ (rs : List Record) {a : VisitProgress} {f : List ℕ} where
+  unfoldable pub relax : {x y x' y' : ℕ} → VisitReady rs a f x y → x' ≤ x → y' ≤ y → VisitReady rs a f x' y'
+  relax h p q = record {
     state = h.state;
-    places₀ = h.places₀;
+    progress₀ = h.progress₀;
     buffer₀ = h.buffer₀;
     held = h.held;
     few = h.few;
@@ -85,86 +105,41 @@ module _ (rs : List Record) (m o f : List ℕ) (a : VisitProgress) where
     spare = let r = h.spare in omega arith;
   }
 
-  -- d is opened
-  open-unvisited : (d : ℕ) → d < length m → get_or m d 0 ≡ 0 → unvisited_count m ≡ suc (unvisited_count (set m d 1))
-  open-unvisited d l e = unvisited-opened m d (get_d_any m d 2 0 l ∙ e)
+  -- after a step g, by which the faults grow by z at most
+  module _ (x : ℕ) {y z : ℕ} (h : VisitReady rs a f (x + z) y) {a' : VisitProgress} {f' : List ℕ} (g : ℕ → State → State) (grows : (k : ℕ) (s : State) → Growth s (g k s) z) (v : Steps rs g a f a' f') (k : ℕ) (n : unvisited_in rs a < k) where
+    pub now-held : StateHeld rs h.progress₀ h.buffer₀ (g k h.state) a' f'
+    now-held = v k h.progress₀ h.buffer₀ h.state n h.held
 
-  open-ready : (d : ℕ) → d < length m → get_or m d 0 ≡ 0 → VisitReady rs m o f a 1 0 → VisitReady rs (set m d 1) o f a 2049 1
-  open-ready d l e h =
-      let n = open-unvisited d l e in
-      let r = h.room in
-      let s = h.spare in
-      record {
-        state = opened d h.state;
-        places₀ = h.places₀;
-        buffer₀ = h.buffer₀;
-        held = held-open rs h.places₀ h.buffer₀ h.state m o f a h.held d;
-        few = h.few;
-        size = length-set m d 1 ∙ h.size;
-        room = omega arith;
-        spare = omega arith;
-      }
-
-  module _ (m' o' f' : List ℕ) (a' : VisitProgress) where
-    -- the slices now hold a state s' that has grown by z at most
-    pub after : (x y z : ℕ) (h : VisitReady rs m o f a (x + z) y) (s' : State) → StateHeld rs h.places₀ h.buffer₀ s' m' o' f' a' → Growth h.state s' z
-        → length o' ≡ length o → VisitReady rs m' o' f' a' x y
-    after x y z h s' e b l =
+    pub falls : unvisited_in rs a' ≤ unvisited_in rs a
+    falls =
         let e₀ = ap unvisited_count h.held.marks_are in
-        let e₁ = ap unvisited_count e.marks_are in
+        let e₁ = ap unvisited_count now-held.marks_are in
+        let b = (grows k h.state).falls in
+        omega arith
+
+    unfoldable pub after : VisitReady rs a' f' x y
+    after =
+        let b = grows k h.state in
+        let e₀ = ap unvisited_count h.held.marks_are in
+        let e₁ = ap unvisited_count now-held.marks_are in
         let i₀ = h.held.listed_is in
-        let i₁ = e.listed_is in
-        let j₀ = held-total rs h.places₀ h.buffer₀ h.state m o f a h.held in
-        let j₁ = held-total rs h.places₀ h.buffer₀ s' m' o' f' a' e in
+        let i₁ = now-held.listed_is in
+        let j₀ = held-total rs h.progress₀ h.buffer₀ h.state a f h.held in
+        let j₁ = held-total rs h.progress₀ h.buffer₀ (g k h.state) a' f' now-held in
         let r = h.room in
         let s = h.spare in
         let br = b.room in
         let bs = b.spare in
         record {
-          state = s';
-          places₀ = h.places₀;
+          state = g k h.state;
+          progress₀ = h.progress₀;
           buffer₀ = h.buffer₀;
-          held = e;
+          held = now-held;
           few = h.few;
-          size = ap length e.marks_are ∙ b.size ∙ sym (ap length h.held.marks_are) ∙ h.size;
+          size = ap length now-held.marks_are ∙ b.size ∙ sym (ap length h.held.marks_are) ∙ h.size;
           room = omega arith;
           spare = omega arith;
         }
-
-    visit-made : (r : Reference) {x y : ℕ} (h : VisitReady rs m o f a x y) → Visited rs r m o f a m' o' f' a'
-        → StateHeld rs h.places₀ h.buffer₀ (resolve (visit (suc (unvisited_count m)) (references rs)) r h.state) m' o' f' a'
-    visit-made r h v = v (suc (unvisited_count m)) h.places₀ h.buffer₀ h.state (lt-suc_self (unvisited_count m)) h.held
-
-    visit-growth-at : (r : Reference) {x y : ℕ} (h : VisitReady rs m o f a x y) → Growth h.state (resolve (visit (suc (unvisited_count m)) (references rs)) r h.state) 1
-    visit-growth-at r h = resolve-growth (visit (suc (unvisited_count m)) (references rs)) (visit-growth (references rs) (λ d. references-length rs d h.few) (suc (unvisited_count m))) r h.state
-
-    after-visit : (r : Reference) (x y : ℕ) → VisitReady rs m o f a (x + 1) y → Visited rs r m o f a m' o' f' a' → length o' ≡ length o → VisitReady rs m' o' f' a' x y
-    after-visit r x y h v l = after x y 1 h _ (visit-made r h v) (visit-growth-at r h) l
-
-    visit-falls : (r : Reference) {x y : ℕ} → VisitReady rs m o f a x y → Visited rs r m o f a m' o' f' a' → unvisited_count m' ≤ unvisited_count m
-    visit-falls r h v =
-        let e₀ = ap unvisited_count h.held.marks_are in
-        let e₁ = ap unvisited_count (visit-made r h v).marks_are in
-        let b = (visit-growth-at r h).falls in
-        omega arith
-
-    walk-made : (p : ℕ) {x y : ℕ} (h : VisitReady rs m o f a x y) → Walked rs p m o f a m' o' f' a'
-        → StateHeld rs h.places₀ h.buffer₀ (walk (visit (suc (unvisited_count m)) (references rs)) (field_references rs p (length rs - p)) h.state) m' o' f' a'
-    walk-made p h v = v (suc (unvisited_count m)) h.places₀ h.buffer₀ h.state (lt-suc_self (unvisited_count m)) h.held
-
-    walk-growth-at : (p : ℕ) {x y : ℕ} (h : VisitReady rs m o f a x y)
-        → Growth h.state (walk (visit (suc (unvisited_count m)) (references rs)) (field_references rs p (length rs - p)) h.state) (length (field_references rs p (length rs - p)))
-    walk-growth-at p h = walk-growth (visit (suc (unvisited_count m)) (references rs)) (visit-growth (references rs) (λ d. references-length rs d h.few) (suc (unvisited_count m))) (field_references rs p (length rs - p)) h.state
-
-    after-walk : (p x y : ℕ) → VisitReady rs m o f a (x + length (field_references rs p (length rs - p))) y → Walked rs p m o f a m' o' f' a' → length o' ≡ length o → VisitReady rs m' o' f' a' x y
-    after-walk p x y h v l = after x y (length (field_references rs p (length rs - p))) h _ (walk-made p h v) (walk-growth-at p h) l
-
-    walk-falls : (p : ℕ) {x y : ℕ} → VisitReady rs m o f a x y → Walked rs p m o f a m' o' f' a' → unvisited_count m' ≤ unvisited_count m
-    walk-falls p h v =
-        let e₀ = ap unvisited_count h.held.marks_are in
-        let e₁ = ap unvisited_count (walk-made p h v).marks_are in
-        let b = (walk-growth-at p h).falls in
-        omega arith
 
 -- ---- a declaration to visit stands in the table
 
@@ -253,158 +228,131 @@ nowhere rs p e = rw (other 34 refl, other 33 refl, other 30 refl)
     other : (k : ℕ) → may_refer k ≡ true → eqb (at rs p).kind k ≡ false
     other k h = ne_eqb (at rs p).kind k (λ i. false-true (sym e ∙ ap may_refer i ∙ h))
 
--- ---- the returns
-
-module _ (rs : List Record) (m o f : List ℕ) (a : VisitProgress) where
-  visited-wrong : (c p : ℕ) (f' : List ℕ) (b : VisitProgress) → Noted rs f a c p f' b → Visited rs (Wrong c p) m o f a m o f' b
-  visited-wrong c p f' b e k o₀ f₀ s n h = held-note rs o₀ f₀ s m o f a h c p f' b e
-
-  visited-open : (d : ℕ) (f' : List ℕ) (b : VisitProgress) → d < length m → get_or m d 0 ≡ 1 → Noted rs f a 2 d f' b → Visited rs (Follow d) m o f a m o f' b
-  visited-open d f' b l e g zero o₀ f₀ s n h = absurd (omega arith)
-  visited-open d f' b l e g (suc k) o₀ f₀ s n h =
-      rw (visit-open (references rs) k d s (sym (ap (λ (x : List ℕ). get_or x d 2) h.marks_are) ∙ get_d_any m d 2 0 l ∙ e)) (held-note rs o₀ f₀ s m o f a h 2 d f' b g)
-
-  visited-listed : (d : ℕ) → d < length m → ¬ (get_or m d 0 ≡ 0) → ¬ (get_or m d 0 ≡ 1) → Visited rs (Follow d) m o f a m o f a
-  visited-listed d l e g zero o₀ f₀ s n h = absurd (omega arith)
-  visited-listed d l e g (suc k) o₀ f₀ s n h =
-      let q = get_d_any m d 0 2 l ∙ ap (λ (x : List ℕ). get_or x d 2) h.marks_are in
-      rw (visit-listed (references rs) k d s (λ z. e (q ∙ z)) (λ z. g (q ∙ z))) h
-
-  visited-new : (d : ℕ) → d < length m → get_or m d 0 ≡ 0
-      → (m₁ o₁ f₁ : List ℕ) (b : VisitProgress) → Walked rs (d + 1) (set m d 1) o f a m₁ o₁ f₁ b → unvisited_count m₁ ≤ unvisited_count (set m d 1)
-      → (m₂ o₂ f₂ : List ℕ) (g : VisitProgress) → Visited rs (own_reference rs d) m₁ o₁ f₁ b m₂ o₂ f₂ g
-      → (z : VisitProgress) → z.listed ≡ g.listed + 1 → z.tally ≡ g.tally
-      → Visited rs (Follow d) m o f a (set m₂ d 2) (set o₂ g.listed d) f₂ z
-  visited-new d l e m₁ o₁ f₁ b w n₁ m₂ o₂ f₂ g v z p q zero o₀ f₀ s n h = absurd (omega arith)
-  visited-new d l e m₁ o₁ f₁ b w n₁ m₂ o₂ f₂ g v z p q (suc k) o₀ f₀ s n h =
-      let n₀ = open-unvisited rs m o f a d l e in
-      rw (visit-new rs k d s (sym (ap (λ (x : List ℕ). get_or x d 2) h.marks_are) ∙ get_d_any m d 2 0 l ∙ e))
-      (held-list rs o₀ f₀ _ m₂ o₂ f₂ g
-      (v k o₀ f₀ _ (omega arith) (w k o₀ f₀ (opened d s) (omega arith) (held-open rs o₀ f₀ s m o f a h d)))
-      d z p q)
-
-  walked_end : (p : ℕ) → field_references rs p (length rs - p) ≡ [] → Walked rs p m o f a m o f a
-  unfolding walk
-  walked_end p e k o₀ f₀ s n h = rw e h
-
-  walked_skip : (p : ℕ) → p < length rs → is_decl (at rs p).kind ≡ false → field_reference rs p ≡ Nowhere
-      → {m' o' f' : List ℕ} {b : VisitProgress} → Walked rs (p + 1) m o f a m' o' f' b → Walked rs p m o f a m' o' f' b
-  unfolding walk
-  walked_skip p l e r w k o₀ f₀ s n h = rw (fields-one rs p l e, r) (w k o₀ f₀ s n h)
-
-  walked_more : (p : ℕ) → p < length rs → is_decl (at rs p).kind ≡ false
-      → (m₁ o₁ f₁ : List ℕ) (b : VisitProgress) → Visited rs (field_reference rs p) m o f a m₁ o₁ f₁ b → unvisited_count m₁ ≤ unvisited_count m
-      → (m₂ o₂ f₂ : List ℕ) (z : VisitProgress) → Walked rs (p + 1) m₁ o₁ f₁ b m₂ o₂ f₂ z
-      → Walked rs p m o f a m₂ o₂ f₂ z
-  unfolding walk
-  walked_more p l e m₁ o₁ f₁ b v n₁ m₂ o₂ f₂ z w k o₀ f₀ s n h =
-      rw (fields-one rs p l e) (w k o₀ f₀ (resolve (visit k (references rs)) (field_reference rs p) s) (omega arith) (v k o₀ f₀ s n h))
-
 -- ---- what each call requires and each return ensures
 
-module _ (rs : List Record) (m o f : List ℕ) (a : VisitProgress) where
-  module _ {d : ℕ} (l : d < length rs) (h : VisitReady rs m o f a 1 0) where
-    mark-in : d < length m
-    mark-in = let s = h.size in omega arith
+module _ (rs : List Record) {a : VisitProgress} {f : List ℕ} where
+  pub ret-follow : {r : Reference} {d : ℕ} {a' : VisitProgress} {f' : List ℕ} → r ≡ Follow d → Visited rs (Follow d) a f a' f' → Visited rs r a f a' f'
+  ret-follow e v = rw e v
 
-    module _ (e : get_or m d 0 ≡ 0) where
-      pub call-walk : {x : ℕ} → unvisited_count m * 3 ≡ x
-          → (unvisited_count (set m d 1) * 3 + 2 < x) × VisitReady rs (set m d 1) o f a (length rs - (d + 1)) 0
-      call-walk q =
-          let n = open-unvisited rs m o f a d mark-in e in
-          let w = h.few in
-          (omega arith, relax rs (set m d 1) o f a 2049 1 (length rs - (d + 1)) 0 (omega arith) (omega arith) (open-ready rs m o f a d mark-in e h))
+  pub ret-wrong : {r : Reference} {c p : ℕ} {a' : VisitProgress} {f' : List ℕ} → r ≡ Wrong c p → Noted rs a f c p a' f' → Visited rs r a f a' f'
+  ret-wrong {c = c} {p = p} {a' = a'} {f' = f'} e n = rw e (λ k a₀ f₀ s _ h. held-note rs a₀ f₀ s a f h c p a' f' n)
 
-      module _ {m₁ o₁ f₁ : List ℕ} {b : VisitProgress} (w : Walked rs (d + 1) (set m d 1) o f a m₁ o₁ f₁ b) (lo : length o₁ ≡ length o) where
-        walked-falls : unvisited_count m₁ ≤ unvisited_count (set m d 1)
-        walked-falls = walk-falls rs (set m d 1) o f a m₁ o₁ f₁ b (d + 1) (open-ready rs m o f a d mark-in e h) w
+  module _ {d : ℕ} (l : d < length rs) (h : VisitReady rs a f 1 0) where
+    -- the mark that is read
+    mark-read : get_or a.marks d 0 ≡ get_or (take (length rs) a.marks) d 2
+    mark-read = sym (get_or-take (length rs) a.marks d 0 l) ∙ same-default (take (length rs) a.marks) d 0 2 (let z = h.size in omega arith)
 
-        walked-ready : VisitReady rs m₁ o₁ f₁ b 1 1
-        walked-ready =
-            let n = fields-length rs (d + 1) (length rs - (d + 1)) in
-            let y = h.few in
-            after-walk rs (set m d 1) o f a m₁ o₁ f₁ b (d + 1) 1 1
-            (relax rs (set m d 1) o f a 2049 1 (1 + length (field_references rs (d + 1) (length rs - (d + 1)))) 1 (omega arith) (omega arith) (open-ready rs m o f a d mark-in e h))
-            w lo
+    mark-held : {a₀ : VisitProgress} {f₀ : List ℕ} {s : State} → StateHeld rs a₀ f₀ s a f → get_or a.marks d 0 ≡ mark_of s d
+    mark-held e = mark-read ∙ ap (λ (x : List ℕ). get_or x d 2) e.marks_are
 
-        pub call-own : {q : Reference} {x : ℕ} → q ≡ own_reference rs d → unvisited_count m * 3 ≡ x
-            → (unvisited_count m₁ * 3 + 1 < x) × (Within (length rs) q × VisitReady rs m₁ o₁ f₁ b 1 0)
-        call-own q y =
-            let n = open-unvisited rs m o f a d mark-in e in
-            let k = walked-falls in
-            (omega arith, (rw q (within-own rs d), relax rs m₁ o₁ f₁ b 1 1 1 0 (omega arith) (omega arith) walked-ready))
+    pub ret-open : {a' : VisitProgress} {f' : List ℕ} → get_or a.marks d 0 ≡ 1 → Noted rs a f 2 d a' f' → Visited rs (Follow d) a f a' f'
+    ret-open e n zero a₀ f₀ s u i = absurd (omega arith)
+    ret-open {a'} {f'} e n (suc k) a₀ f₀ s u i = rw (visit-open (references rs) k d s (sym (mark-held i) ∙ e)) (held-note rs a₀ f₀ s a f i 2 d a' f' n)
 
-        module _ {q : Reference} (qe : q ≡ own_reference rs d) {m₂ o₂ f₂ : List ℕ} {g : VisitProgress} (v : Visited rs q m₁ o₁ f₁ b m₂ o₂ f₂ g) (lo₂ : length o₂ ≡ length o₁) where
-          pub call-list : (d < length m₂) × (d < 65536) × (g.listed < length o₂)
-          call-list =
-              let y = after-visit rs m₁ o₁ f₁ b m₂ o₂ f₂ g q 0 1 walked-ready v lo₂ in
-              let s = y.size in
-              let p = y.room in
-              let n = y.few in
-              (omega arith, omega arith, omega arith)
+    pub ret-listed : ¬ (get_or a.marks d 0 ≡ 0) → ¬ (get_or a.marks d 0 ≡ 1) → Visited rs (Follow d) a f a f
+    ret-listed e n zero a₀ f₀ s u i = absurd (omega arith)
+    ret-listed e n (suc k) a₀ f₀ s u i = rw (visit-listed (references rs) k d s (λ z. e (mark-held i ∙ z)) (λ z. n (mark-held i ∙ z))) i
 
-          pub ret-new : {m₃ o₃ : List ℕ} {z : VisitProgress}
-              → (z.listed ≡ g.listed + 1) × (z.tally ≡ g.tally) × (m₃ ≡ set m₂ d 2) × (o₃ ≡ set o₂ g.listed d)
-              → Visited rs (Follow d) m o f a m₃ o₃ f₂ z
-          ret-new {m₃} {o₃} {z} p =
-              rw (p.2, p.3)
-              (visited-new rs m o f a d mark-in e m₁ o₁ f₁ b w walked-falls m₂ o₂ f₂ g (rw qe at v) z p.0 p.1)
+    module _ (e : get_or a.marks d 0 ≡ 0) where
+      one-less : unvisited_in rs a ≡ suc (unvisited_in rs (opening d a))
+      one-less = unvisited-opened (take (length rs) a.marks) d (sym mark-read ∙ e) ∙ ap (λ (x : List ℕ). suc (unvisited_count x)) (sym (take-set-lt (length rs) a.marks d 1 l))
 
-    pub ret-open : {f' : List ℕ} {z : VisitProgress} → get_or m d 0 ≡ 1 → Noted rs f a 2 d f' z → Visited rs (Follow d) m o f a m o f' z
-    ret-open {f'} {z} e p = visited-open rs m o f a d f' z mark-in e p
+      open-ready : VisitReady rs (opening d a) f 2049 1
+      open-ready =
+          let n = one-less in
+          let r = h.room in
+          let s = h.spare in
+          record {
+            state = opened d h.state;
+            progress₀ = h.progress₀;
+            buffer₀ = h.buffer₀;
+            held = held-open rs h.progress₀ h.buffer₀ h.state a f h.held l;
+            few = h.few;
+            size = ap length (take-set-lt (length rs) a.marks d 1 l) ∙ length-set (take (length rs) a.marks) d 1 ∙ h.size;
+            room = omega arith;
+            spare = omega arith;
+          }
 
-    pub ret-listed : ¬ (get_or m d 0 ≡ 0) → ¬ (get_or m d 0 ≡ 1) → Visited rs (Follow d) m o f a m o f a
-    ret-listed e e' = visited-listed rs m o f a d mark-in e e'
+      pub call-walk : {t : ℕ} → unvisited_in rs a * 3 ≡ t → (unvisited_in rs (opening d a) * 3 + 2 < t) × VisitReady rs (opening d a) f (length rs - (d + 1)) 0
+      call-walk q = let n = one-less in let w = h.few in (omega arith, relax rs open-ready (omega arith) (omega arith))
 
-  pub ret-follow : {r : Reference} {d : ℕ} {m' o' f' : List ℕ} {z : VisitProgress} → r ≡ Follow d → Visited rs (Follow d) m o f a m' o' f' z → Visited rs r m o f a m' o' f' z
-  ret-follow re v = rw re v
+      module _ {b : VisitProgress} {g : List ℕ} (w : Walked rs (d + 1) (opening d a) f b g) where
+        fields-ready : VisitReady rs (opening d a) f (1 + length (field_references rs (d + 1) (length rs - (d + 1)))) 1
+        fields-ready = let n = fields-length rs (d + 1) (length rs - (d + 1)) in let y = h.few in relax rs open-ready (omega arith) (omega arith)
 
-  pub ret-wrong : {r : Reference} {c p : ℕ} {f' : List ℕ} {z : VisitProgress} → r ≡ Wrong c p → Noted rs f a c p f' z → Visited rs r m o f a m o f' z
-  ret-wrong {r} {c} {p} {f'} {z} re e = rw re (visited-wrong rs m o f a c p f' z e)
+        walked-falls : unvisited_in rs b ≤ unvisited_in rs (opening d a)
+        walked-falls = falls rs 1 fields-ready (walked rs (d + 1)) (walk-grows rs h.few (d + 1)) w (suc (unvisited_in rs (opening d a))) (omega arith)
+
+        walked-ready : VisitReady rs b g 1 1
+        walked-ready = after rs 1 fields-ready (walked rs (d + 1)) (walk-grows rs h.few (d + 1)) w (suc (unvisited_in rs (opening d a))) (omega arith)
+
+        module _ {q : Reference} (qe : q ≡ own_reference rs d) where
+          pub call-own : {t : ℕ} → unvisited_in rs a * 3 ≡ t → (unvisited_in rs b * 3 + 1 < t) × (Within (length rs) q × VisitReady rs b g 1 0)
+          call-own y =
+              let n = one-less in
+              let k = walked-falls in
+              (omega arith, (rw qe (within-own rs d), relax rs walked-ready (omega arith) (omega arith)))
+
+          module _ {c : VisitProgress} {o : List ℕ} (v : Visited rs q b g c o) where
+            pub call-list : (d < 1600) × (c.listed < 1600)
+            call-list =
+                let y = after rs 0 walked-ready (taken_up rs q) (visit-grows rs h.few q) v (suc (unvisited_in rs b)) (omega arith) in
+                let p = y.room in
+                let n = y.few in
+                (omega arith, omega arith)
+
+            pub ret-new : {a' : VisitProgress} → a' ≡ listing d c → Visited rs (Follow d) a f a' o
+            ret-new p zero a₀ f₀ s u i = absurd (omega arith)
+            ret-new p (suc k) a₀ f₀ s u i =
+                let n = one-less in
+                let m = walked-falls in
+                rw (p, visit-new rs k d s (sym (mark-held i) ∙ e), ← qe)
+                (held-list rs a₀ f₀ _ c o (v k a₀ f₀ _ (omega arith) (w k a₀ f₀ (opened d s) (omega arith) (held-open rs a₀ f₀ s a f i l))) l)
 
 -- ---- the loop over the fields
 
 -- the fields from p up to q are taken up: what is left makes the whole
-pub record Walking (rs : List Record) (p : ℕ) (m₀ o₀ f₀ : List ℕ) (a₀ : VisitProgress) (m o f : List ℕ) (a : VisitProgress) (q : ℕ) : Type 0 where
-  pub ready : VisitReady rs m o f a (length rs - q) 0
-  pub falls : unvisited_count m ≤ unvisited_count m₀
-  pub rest : (m' o' f' : List ℕ) (b : VisitProgress) → Walked rs q m o f a m' o' f' b → Walked rs p m₀ o₀ f₀ a₀ m' o' f' b
+pub record Walking (rs : List Record) (p : ℕ) (a₀ : VisitProgress) (f₀ : List ℕ) (a : VisitProgress) (f : List ℕ) (q : ℕ) : Type 0 where
+  pub ready : VisitReady rs a f (length rs - q) 0
+  pub fewer : unvisited_in rs a ≤ unvisited_in rs a₀
+  pub rest : (a' : VisitProgress) (f' : List ℕ) → Walked rs q a f a' f' → Walked rs p a₀ f₀ a' f'
 
-pub walk-start : (rs : List Record) (p : ℕ) (m o f : List ℕ) (a : VisitProgress) → VisitReady rs m o f a (length rs - p) 0 → Walking rs p m o f a m o f a p
-walk-start rs p m o f a h =
-    record { ready = h; falls = omega arith; rest = λ m' o' f' b w. w }
+pub walk-start : (rs : List Record) (p : ℕ) (a : VisitProgress) (f : List ℕ) → VisitReady rs a f (length rs - p) 0 → Walking rs p a f a f p
+walk-start rs p a f h = record { ready = h; fewer = omega arith; rest = λ a' f' w. w }
 
-module _ (rs : List Record) {p q : ℕ} {m₀ o₀ f₀ : List ℕ} {a₀ : VisitProgress} {m o f : List ℕ} {a : VisitProgress} (i : Walking rs p m₀ o₀ f₀ a₀ m o f a q) where
-  pub walk-decl : is_decl (at rs q).kind ≡ true → Walked rs p m₀ o₀ f₀ a₀ m o f a
-  walk-decl e = i.rest m o f a (walked_end rs m o f a q (fields-decl rs q (length rs - q) e))
+module _ (rs : List Record) {p q : ℕ} {a₀ : VisitProgress} {f₀ : List ℕ} {a : VisitProgress} {f : List ℕ} (i : Walking rs p a₀ f₀ a f q) where
+  -- no field is left
+  none-left : field_references rs q (length rs - q) ≡ [] → Walked rs p a₀ f₀ a f
+  unfolding walk
+  none-left e = i.rest a f (λ k o₀ g₀ s n h. rw e h)
 
-  pub walk-past : length rs ≤ q → Walked rs p m₀ o₀ f₀ a₀ m o f a
-  walk-past l = i.rest m o f a (walked_end rs m o f a q (fields-past rs q l))
+  pub walk-decl : is_decl (at rs q).kind ≡ true → Walked rs p a₀ f₀ a f
+  walk-decl e = none-left (fields-decl rs q (length rs - q) e)
+
+  pub walk-past : length rs ≤ q → Walked rs p a₀ f₀ a f
+  walk-past l = none-left (fields-past rs q l)
 
   module _ (l : q < length rs) (e : is_decl (at rs q).kind ≡ false) where
-    pub walk-skip : may_refer (at rs q).kind ≡ false → Walking rs p m₀ o₀ f₀ a₀ m o f a (q + 1)
+    pub walk-skip : may_refer (at rs q).kind ≡ false → Walking rs p a₀ f₀ a f (q + 1)
+    unfolding walk
     walk-skip r = record {
-      ready = relax rs m o f a (length rs - q) 0 (length rs - (q + 1)) 0 (omega arith) (omega arith) i.ready;
-      falls = i.falls;
-      rest = λ m' o' f' b w. i.rest m' o' f' b (walked_skip rs m o f a q l e (nowhere rs q r) w);
+      ready = relax rs i.ready (omega arith) (omega arith);
+      fewer = i.fewer;
+      rest = λ a' f' w. i.rest a' f' (λ k o₀ g₀ s n h. rw (fields-one rs q l e, nowhere rs q r) (w k o₀ g₀ s n h));
     }
 
-    walk-ready : VisitReady rs m o f a 1 0
-    walk-ready = relax rs m o f a (length rs - q) 0 1 0 (omega arith) (omega arith) i.ready
+    module _ {r : Reference} (re : r ≡ field_reference rs q) where
+      pub walk-call : {t : ℕ} → unvisited_in rs a₀ * 3 + 2 ≡ t → (unvisited_in rs a * 3 + 1 < t) × (Within (length rs) r × VisitReady rs a f 1 0)
+      walk-call y = let n = i.fewer in (omega arith, (rw re (within-field rs q), relax rs i.ready (omega arith) (omega arith)))
 
-    pub walk-call : {r : Reference} {x : ℕ} → r ≡ field_reference rs q → unvisited_count m₀ * 3 + 2 ≡ x
-        → (unvisited_count m * 3 + 1 < x) × (Within (length rs) r × VisitReady rs m o f a 1 0)
-    walk-call r y = let n = i.falls in (omega arith, (rw r (within-field rs q), walk-ready))
-
-    pub walk-turn : {r : Reference} → r ≡ field_reference rs q → (m' o' f' : List ℕ) (b : VisitProgress) → Visited rs r m o f a m' o' f' b → length o' ≡ length o
-        → Walking rs p m₀ o₀ f₀ a₀ m' o' f' b (q + 1)
-    walk-turn r m' o' f' b v' lo =
-        let v = rw r at v' in
-        let n = visit-falls rs m o f a m' o' f' b (field_reference rs q) walk-ready v in
-        let n₀ = i.falls in
-        let h = relax rs m o f a (length rs - q) 0 (length rs - (q + 1) + 1) 0 (omega arith) (omega arith) i.ready in
-        record {
-          ready = after-visit rs m o f a m' o' f' b (field_reference rs q) (length rs - (q + 1)) 0 h v lo;
-          falls = omega arith;
-          rest = λ m₂ o₂ f₂ z w. i.rest m₂ o₂ f₂ z (walked_more rs m o f a q l e m' o' f' b v n m₂ o₂ f₂ z w);
-        }
+      pub walk-turn : (a' : VisitProgress) (f' : List ℕ) → Visited rs r a f a' f' → Walking rs p a₀ f₀ a' f' (q + 1)
+      unfolding walk
+      walk-turn a' f' v =
+          let h : VisitReady rs a f (length rs - (q + 1) + 1) 0 = relax rs i.ready (omega arith) (omega arith) in
+          let n = falls rs (length rs - (q + 1)) h (taken_up rs r) (visit-grows rs i.ready.few r) v (suc (unvisited_in rs a)) (omega arith) in
+          let n₀ = i.fewer in
+          record {
+            ready = after rs (length rs - (q + 1)) h (taken_up rs r) (visit-grows rs i.ready.few r) v (suc (unvisited_in rs a)) (omega arith);
+            fewer = omega arith;
+            rest = λ a₂ f₂ w. i.rest a₂ f₂ (λ k o₀ g₀ s u j. rw (fields-one rs q l e, ← re) (w k o₀ g₀ (taken_up rs r k s) (omega arith) (v k o₀ g₀ s u j)));
+          }

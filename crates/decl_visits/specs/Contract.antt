@@ -1,13 +1,14 @@
--- What the contracts of the visits say: which state the lent slices hold.
-use Rattle.std.specs.Prelude.{◌≡◌, List, [], ◌∷◌, map, ℕ, zero, suc, ◌+◌, ◌*◌, ◌-◌, ◌^◌, ◌<◌, ◌≤◌, length}
+-- What the contracts of the visits say: which state the progress and the fault buffer hold.
+use Rattle.std.specs.Prelude.{◌≡◌, List, [], ◌∷◌, map, ℕ, zero, suc, ◌+◌, ◌*◌, ◌-◌, ◌^◌, ◌<◌, ◌≤◌, length, take, drop, set, replicate}
 use Rattle.std.proofs.lemmas.List.Edits.{sets}
-use Rattle.rules.specs.Faults.{log}
+use Rattle.rules.specs.Table.{at}
+use Rattle.rules.specs.Faults.{single, log}
 use Rattle.rules.specs.Visits.{State, resolve, walk, visit}
 use Rattle.rules.specs.DeclIdentifiers.{references, field_references, fault_of}
 use Rattle.rules.specs.declared.Record.{Record}
 use Rattle.rules.specs.declared.Reference.{Reference}
 use Rattle.rules.specs.declared.Reference.TheVariants.{Nowhere, Wrong, Follow}
-use Rattle.faults.specs.Notes.{no_faults, noted_all}
+use Rattle.faults.specs.Notes.{no_faults, noted, noted_all}
 use Rattle.decl_visits.specs.declared.VisitProgress.{VisitProgress}
 
 -- how many marks are of places not visited yet
@@ -16,23 +17,43 @@ unvisited_count [] = zero
 unvisited_count (zero ∷ l) = suc (unvisited_count l)
 unvisited_count (suc m ∷ l) = unvisited_count l
 
--- the slices and the counts hold the state s; the places and the fault buffer were o₀ and f₀
-pub record StateHeld (rs : List Record) (o₀ f₀ : List ℕ) (s : State) (marks places buffer : List ℕ) (a : VisitProgress) : Type 0 where
-  pub marks_are : marks ≡ s.marks
-  pub places_are : places ≡ sets o₀ 0 s.order
+-- of the places of the table
+abbrev pub unvisited_in : List Record → VisitProgress → ℕ
+unvisited_in rs a = unvisited_count (take (length rs) a.marks)
+
+-- nothing visited yet
+unfoldable pub started : VisitProgress
+started = record { marks = replicate 1600 0; places = replicate 1600 0; listed = 0; tally = no_faults }
+
+-- the declaration at d is listed
+abbrev pub listing : ℕ → VisitProgress → VisitProgress
+listing d a = record { marks = set a.marks d 2; places = set a.places a.listed d; listed = a.listed + 1; tally = a.tally }
+
+-- a fault more, at the record at p
+pub record Noted (rs : List Record) (a : VisitProgress) (buffer : List ℕ) (c p : ℕ) (a' : VisitProgress) (buffer' : List ℕ) : Type 0 where
+  pub marks : a'.marks ≡ a.marks
+  pub places : a'.places ≡ a.places
+  pub listed : a'.listed ≡ a.listed
+  pub faults : log a'.tally buffer' ≡ noted (log a.tally buffer) (single c (at rs p))
+
+-- the progress and the fault buffer hold the state s; they were a₀ and f₀
+pub record StateHeld (rs : List Record) (a₀ : VisitProgress) (f₀ : List ℕ) (s : State) (a : VisitProgress) (buffer : List ℕ) : Type 0 where
+  pub marks_are : take (length rs) a.marks ≡ s.marks
+  pub marks_rest : drop (length rs) a.marks ≡ drop (length rs) a₀.marks
+  pub places_are : a.places ≡ sets a₀.places 0 s.order
   pub listed_is : a.listed ≡ length s.order
   pub faults_are : log a.tally buffer ≡ noted_all (log no_faults f₀) (map (fault_of rs) s.faults)
 
 -- they hold some state, with room for x more faults and y more places than the unvisited ones bring
-pub record VisitReady (rs : List Record) (marks places buffer : List ℕ) (a : VisitProgress) (x y : ℕ) : Type 0 where
+pub record VisitReady (rs : List Record) (a : VisitProgress) (buffer : List ℕ) (x y : ℕ) : Type 0 where
   pub state : State
-  pub places₀ : List ℕ
+  pub progress₀ : VisitProgress
   pub buffer₀ : List ℕ
-  pub held : StateHeld rs places₀ buffer₀ state marks places buffer a
+  pub held : StateHeld rs progress₀ buffer₀ state a buffer
   pub few : length rs ≤ 1600
-  pub size : length marks ≡ length rs
-  pub room : a.listed + unvisited_count marks + y ≤ length places
-  pub spare : a.tally.total + unvisited_count marks * 2048 + x < 2 ^ 63
+  pub size : length (take (length rs) a.marks) ≡ length rs
+  pub room : a.listed + unvisited_in rs a + y ≤ 1600
+  pub spare : a.tally.total + unvisited_in rs a * 2048 + x < 2 ^ 63
 
 -- a declaration to visit stands below n
 abbrev pub Within : ℕ → Reference → Type 0
@@ -40,13 +61,20 @@ Within n Nowhere = Unit {0}
 Within n (Wrong c p) = Unit {0}
 Within n (Follow d) = d < n
 
--- whatever state they held, they now hold it with the reference r taken up
-abbrev pub Visited : List Record → Reference → List ℕ → List ℕ → List ℕ → VisitProgress → List ℕ → List ℕ → List ℕ → VisitProgress → Type 0
-Visited rs r marks places buffer a marks' places' buffer' a' =
-    (k : ℕ) (o₀ f₀ : List ℕ) (s : State) → unvisited_count marks < k → StateHeld rs o₀ f₀ s marks places buffer a → StateHeld rs o₀ f₀ (resolve (visit k (references rs)) r s) marks' places' buffer' a'
+-- whatever state they held, they now hold what the step g makes of it, where visits may go k declarations deep
+abbrev pub Steps : List Record → (ℕ → State → State) → VisitProgress → List ℕ → VisitProgress → List ℕ → Type 0
+Steps rs g a buffer a' buffer' =
+    (k : ℕ) (a₀ : VisitProgress) (f₀ : List ℕ) (s : State) → unvisited_in rs a < k → StateHeld rs a₀ f₀ s a buffer → StateHeld rs a₀ f₀ (g k s) a' buffer'
 
--- the same of the references of the fields from p on
-abbrev pub Walked : List Record → ℕ → List ℕ → List ℕ → List ℕ → VisitProgress → List ℕ → List ℕ → List ℕ → VisitProgress → Type 0
-Walked rs p marks places buffer a marks' places' buffer' a' =
-    (k : ℕ) (o₀ f₀ : List ℕ) (s : State) → unvisited_count marks < k → StateHeld rs o₀ f₀ s marks places buffer a
-    → StateHeld rs o₀ f₀ (walk (visit k (references rs)) (field_references rs p (length rs - p)) s) marks' places' buffer' a'
+-- the reference r is taken up, and the references of the fields from p on
+abbrev pub taken_up : List Record → Reference → ℕ → State → State
+taken_up rs r k s = resolve (visit k (references rs)) r s
+
+abbrev pub walked : List Record → ℕ → ℕ → State → State
+walked rs p k s = walk (visit k (references rs)) (field_references rs p (length rs - p)) s
+
+abbrev pub Visited : List Record → Reference → VisitProgress → List ℕ → VisitProgress → List ℕ → Type 0
+Visited rs r = Steps rs (taken_up rs r)
+
+abbrev pub Walked : List Record → ℕ → VisitProgress → List ℕ → VisitProgress → List ℕ → Type 0
+Walked rs p = Steps rs (walked rs p)

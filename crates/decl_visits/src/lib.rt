@@ -2,16 +2,14 @@
 // all that it follows.
 #![tactic(auto)]
 
-ghost use Rattle.std.specs.Prelude.{◌≡◌, ◌+◌, ◌-◌, ◌^◌, ◌≤◌, ◌<◌, length, set, replicate};
-ghost use Rattle.rules.specs.Table.{at};
-ghost use Rattle.rules.specs.Faults.{single, log};
+ghost use Rattle.std.specs.Prelude.{◌≡◌, ◌+◌, ◌-◌, ◌^◌, ◌≤◌, ◌<◌, length, take};
 ghost use Rattle.rules.specs.DeclIdentifiers.{visited};
-ghost use Rattle.faults.specs.Notes.{noted};
-ghost use Rattle.decl_visits.specs.Contract.{StateHeld, VisitReady, Within, Visited, Walked};
+ghost use Rattle.decl_visits.specs.Contract.{started, listing, Noted, StateHeld, VisitReady, Within, Visited, Walked};
 
 use decl_references::field_references::field_reference;
 use decl_references::{own_reference, root_reference};
 use declarations::Names;
+use rules::limits::MOST_RECORDS;
 use rules::{Record, Reference, Tally, codes};
 
 // The marks of declarations. They stay numbers, as the rules' `State` has them: each clause would have to map an enum's.
@@ -21,49 +19,64 @@ const VISITING: u8 = 1;
 
 const LISTED: u8 = 2;
 
-// How many places are listed, and the faults found.
-#[derive(Clone, Copy)]
+// A mark for each place, the places listed so far with their count, and the faults found.
+#[derive(Drop)]
 pub struct VisitProgress {
+    pub marks: [u8; MOST_RECORDS],
+    pub places: [u16; MOST_RECORDS],
     pub listed: usize,
     pub tally: Tally,
 }
 
 impl VisitProgress {
+    // Nothing is visited yet.
+    pub fn new() -> Self
+        ensures { result ≡ started }
+    {
+        VisitProgress {
+            marks: [UNVISITED; MOST_RECORDS],
+            places: [0; MOST_RECORDS],
+            listed: 0,
+            tally: faults::no_faults(),
+        }
+    }
+
+    // The places listed so far.
+    pub fn order(&self) -> &[u16]
+        requires { self.now.listed ≤ 1600 }
+        ensures { result.now ≡ take self.now.listed self.now.places }
+    {
+        &self.places[..self.listed]
+    }
+
     // One fault more, at the record at `place`.
     fn note(&mut self, table: &[Record], buffer: &mut [u8], code: u16, place: usize)
         requires { self.old.tally.total + 1 < 2 ^ 64 }
-        ensures { (self.new.listed ≡ self.old.listed) × (log self.new.tally buffer.new ≡ noted (log self.old.tally buffer.old) (single code (at table.now place))) }
+        ensures { Noted table.now self.old buffer.old code place self.new buffer.new }
     {
         let f = faults::fault::single(code, table::at(table, place));
         faults::notes::note(&mut self.tally, buffer, f);
     }
 
     // Lists `decl`.
-    fn list(&mut self, decl: usize, marks: &mut [u8], places: &mut [u16])
-        requires { (decl < length marks.old) × (decl < 65536) × (self.old.listed < length places.old) }
-        ensures { (self.new.listed ≡ self.old.listed + 1) × (self.new.tally ≡ self.old.tally) × (marks.new ≡ set marks.old decl 2) × (places.new ≡ set places.old self.old.listed decl) }
+    fn list(&mut self, decl: usize)
+        requires { (decl < 1600) × (self.old.listed < 1600) }
+        ensures { self.new ≡ listing decl self.old }
     {
-        marks[decl] = LISTED;
-        places[self.listed] = decl as u16;
+        self.marks[decl] = LISTED;
+        self.places[self.listed] = decl as u16;
         self.listed += 1;
     }
 }
 
 // Takes up a reference: a declaration is visited, a fault is noted.
 #[cycle(visit_walk)]
-fn take_up(
-    names: &Names,
-    reference: Reference,
-    marks: &mut [u8],
-    places: &mut [u16],
-    buffer: &mut [u8],
-    progress: &mut VisitProgress,
-)
-    requires { Within (length names.now.table.now) reference × VisitReady names.now.table.now marks.old places.old buffer.old progress.old 1 0 }
-    ensures { Visited names.now.table.now reference marks.old places.old buffer.old progress.old marks.new places.new buffer.new progress.new }
+fn take_up(names: &Names, reference: Reference, progress: &mut VisitProgress, buffer: &mut [u8])
+    requires { Within (length names.now.table.now) reference × VisitReady names.now.table.now progress.old buffer.old 1 0 }
+    ensures { Visited names.now.table.now reference progress.old buffer.old progress.new buffer.new }
 {
     match reference {
-        Reference::Follow(d) => visit(names, d, marks, places, buffer, progress),
+        Reference::Follow(d) => visit(names, d, progress, buffer),
         Reference::Wrong(code, p) => progress.note(names.table, buffer, code, p),
         Reference::Nowhere => {}
     }
@@ -71,24 +84,17 @@ fn take_up(
 
 // Visits the declaration at `decl`: what its fields refer to, then its parent, then `decl` is listed.
 #[cycle(visit_walk)]
-fn visit(
-    names: &Names,
-    decl: usize,
-    marks: &mut [u8],
-    places: &mut [u16],
-    buffer: &mut [u8],
-    progress: &mut VisitProgress,
-)
-    requires { (decl < length names.now.table.now) × VisitReady names.now.table.now marks.old places.old buffer.old progress.old 1 0 }
-    ensures { Visited names.now.table.now (Reference.Follow decl) marks.old places.old buffer.old progress.old marks.new places.new buffer.new progress.new }
+fn visit(names: &Names, decl: usize, progress: &mut VisitProgress, buffer: &mut [u8])
+    requires { (decl < length names.now.table.now) × VisitReady names.now.table.now progress.old buffer.old 1 0 }
+    ensures { Visited names.now.table.now (Reference.Follow decl) progress.old buffer.old progress.new buffer.new }
 {
-    let m = marks[decl];
+    let m = progress.marks[decl];
     if m == UNVISITED {
-        marks[decl] = VISITING;
-        walk(names, decl + 1, marks, places, buffer, progress);
+        progress.marks[decl] = VISITING;
+        walk(names, decl + 1, progress, buffer);
         let r = own_reference(names, decl);
-        take_up(names, r, marks, places, buffer, progress);
-        progress.list(decl, marks, places);
+        take_up(names, r, progress, buffer);
+        progress.list(decl);
     } else if m == VISITING {
         progress.note(names.table, buffer, codes::RECURSIVE_DECL, decl);
     }
@@ -96,16 +102,9 @@ fn visit(
 
 // Takes up what the fields from `place` on refer to, up to the next declaration.
 #[cycle(visit_walk)]
-fn walk(
-    names: &Names,
-    place: usize,
-    marks: &mut [u8],
-    places: &mut [u16],
-    buffer: &mut [u8],
-    progress: &mut VisitProgress,
-)
-    requires { VisitReady names.now.table.now marks.old places.old buffer.old progress.old (length names.now.table.now - place) 0 }
-    ensures { Walked names.now.table.now place marks.old places.old buffer.old progress.old marks.new places.new buffer.new progress.new }
+fn walk(names: &Names, place: usize, progress: &mut VisitProgress, buffer: &mut [u8])
+    requires { VisitReady names.now.table.now progress.old buffer.old (length names.now.table.now - place) 0 }
+    ensures { Walked names.now.table.now place progress.old buffer.old progress.new buffer.new }
 {
     for q in place..names.table.len() {
         let k = names.table[q].kind;
@@ -116,27 +115,20 @@ fn walk(
             continue;
         }
         let r = field_reference(names, q);
-        take_up(names, r, marks, places, buffer, progress);
+        take_up(names, r, progress, buffer);
     }
 }
 
-// Takes up what each record refers to, in table order. The first listed places of `places` are the order.
-pub fn visit_all(
-    names: &Names,
-    marks: &mut [u8],
-    places: &mut [u16],
-    buffer: &mut [u8],
-) -> VisitProgress
-    requires { (length names.now.table.now ≤ 1600) × (marks.old ≡ replicate (length names.now.table.now) 0) × (length names.now.table.now ≤ length places.old) }
-    ensures { StateHeld names.now.table.now places.old buffer.old (visited names.now.table.now) marks.new places.new buffer.new result }
+// Takes up what each declaration refers to, in table order; no other record does. The first listed places are then the order.
+pub fn visit_all(names: &Names, progress: &mut VisitProgress, buffer: &mut [u8])
+    requires { (length names.now.table.now ≤ 1600) × (progress.old ≡ started) }
+    ensures { StateHeld names.now.table.now started buffer.old (visited names.now.table.now) progress.new buffer.new }
 {
-    let mut progress = VisitProgress {
-        listed: 0,
-        tally: faults::no_faults(),
-    };
     for p in 0..names.table.len() {
+        if !kinds::is_decl(names.table[p].kind) {
+            continue;
+        }
         let r = root_reference(names, p);
-        take_up(names, r, marks, places, buffer, &mut progress);
+        take_up(names, r, progress, buffer);
     }
-    progress
 }
