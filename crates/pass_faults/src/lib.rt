@@ -1,9 +1,7 @@
-// All faults of a pass, by its number: pass 1, and passes 3 to 9, place by place.
+// All faults of each pass but 2, place by place.
 #![tactic(auto)]
 
-ghost use Rattle.std.specs.Prelude.{◌≡◌, List, [], ◌++◌, false, ℕ, ◌≤◌, length};
-ghost use Rattle.std.specs.Option.{option_to_list};
-ghost use Rattle.rules.specs.Table.{at};
+ghost use Rattle.std.specs.Prelude.{◌≡◌, ℕ, List, [], IfSome, MatchOption, length};
 ghost use Rattle.rules.specs.Places.{each};
 ghost use Rattle.rules.specs.declared.Fault.{Fault};
 ghost use Rattle.rules.specs.Faults.{log, logged};
@@ -14,22 +12,18 @@ ghost use Rattle.rules.specs.FixedFields.{pass6};
 ghost use Rattle.rules.specs.PayloadFields.{pass7};
 ghost use Rattle.rules.specs.ArrayFields.{pass8};
 ghost use Rattle.rules.specs.PaddingFields.{pass9};
-ghost use Rattle.declarations.specs.Starts.{Starts};
 ghost use Rattle.repeats.specs.Marks.{Marked};
-ghost use Rattle.repeats.specs.declared.marks.Compared.TheVariants.{FieldNames, Sizes, ElementSizes};
-ghost use Rattle.size_fields.specs.SizeStarts.{SizeStarts};
-ghost use Rattle.payload_fields.specs.Parents.{Parents};
-ghost use Rattle.pass_faults.specs.Passes.{pass_faults};
 ghost use Rattle.pass_faults.specs.Listed.{is_among, Lists};
 
+use declarations::Names;
 use declarations::starts::is_large;
-use field_identifiers::check_field_identifiers;
+use faults::notes::note_found;
 use repeats::marks::Compared;
 use rules::limits::MOST_RECORDS;
 use rules::{Fault, Record, Tally};
-use table::{NO_PLACE, REMAINDERS};
 
 // Whether the bit of this kind is set.
+#[tactic(auto, unfolding(crate::specs::Listed::is_among))]
 fn is_among(kinds: u64, kind: u8) -> bool
     ensures { result ≡ is_among kinds kind }
 {
@@ -47,70 +41,68 @@ fn run_places<F: Fn(usize) -> (Option<Fault>, Option<Fault>)>(
     ensures { (listed : ℕ → List Fault) → Lists (F.post found_at) table.now kinds listed → log result buffer.new ≡ logged buffer.old (each listed (length table.now)) }
 {
     let mut tally = faults::no_faults();
-    for place in 0..table.len() {
-        if is_among(kinds, table::kind(table, place)) {
+    for (place, r) in table.iter().enumerate() {
+        if is_among(kinds, r.kind) {
             let (first, second) = found_at(place);
-            tally = faults::notes::note_found(tally, buffer, first);
-            tally = faults::notes::note_found(tally, buffer, second);
+            tally = note_found(tally, buffer, first);
+            tally = note_found(tally, buffer, second);
         }
     }
     tally
 }
 
-// Pass 1, where `starts` says of some names where their declarations start.
-fn scopes(table: &[Record], starts: &[u16], buffer: &mut [u8]) -> Tally
-    requires { Starts table.now starts.now }
+// The marks of the records that may repeat an earlier one, where the table is so large that they spare time.
+fn known_marks(table: &[Record], what: Compared) -> Option<[bool; MOST_RECORDS]>
+    ensures { IfSome result (λ marks. Marked table.now what marks) }
+{
+    if !is_large(table) {
+        return None;
+    }
+    let mut marks = [true; MOST_RECORDS];
+    repeats::marks::mark(table, what, &mut marks);
+    Some(marks)
+}
+
+// What is known, as a slice: an empty one where nothing is.
+fn as_slice<T, const N: usize>(known: &Option<[T; N]>) -> &[T]
+    ensures { MatchOption known.now (result.now ≡ []) (λ a. result.now ≡ a) }
+{
+    match known {
+        Some(a) => a,
+        None => &[],
+    }
+}
+
+// Pass 1.
+pub fn check_scopes(table: &[Record], buffer: &mut [u8]) -> Tally
     ensures { log result buffer.new ≡ logged buffer.old (pass1 table.now) }
 {
+    let starts = declarations::starts::known(table);
+    let names = Names::new(table, &starts);
     run_places(
         table,
         kinds::NAMED_DECLS,
-        |place| (scope::at_place(table, starts, place), None),
+        |place| (scope::at_place(&names, place), None),
         buffer,
     )
 }
 
-fn run_scopes(table: &[Record], buffer: &mut [u8]) -> Tally
-    ensures { log result buffer.new ≡ logged buffer.old (pass1 table.now) }
-{
-    if !is_large(table) {
-        return scopes(table, &[], buffer);
-    }
-    let mut starts = [NO_PLACE; REMAINDERS];
-    declarations::starts::fill(table, &mut starts);
-    scopes(table, &starts, buffer)
-}
-
-// Pass 3, where `marks` says which fields may repeat a name.
-fn field_names(table: &[Record], marks: &[u8], buffer: &mut [u8]) -> Tally
-    requires { Marked table.now FieldNames marks.now }
+// Pass 3.
+pub fn check_field_identifiers(table: &[Record], buffer: &mut [u8]) -> Tally
     ensures { log result buffer.new ≡ logged buffer.old (pass3 table.now) }
 {
-    run_places(
-        table,
-        kinds::NAMED_FIELDS,
-        |place| (field_identifiers::at_place(table, marks, place), None),
-        buffer,
-    )
+    let marks = known_marks(table, Compared::FieldNames);
+    field_identifiers::check_field_identifiers(table, as_slice(&marks), buffer)
 }
 
-// In a small table, where `field_names` searches for each, it would take longer to ask which fields may repeat a name.
-fn run_field_names(table: &[Record], buffer: &mut [u8]) -> Tally
-    ensures { log result buffer.new ≡ logged buffer.old (pass3 table.now) }
-{
-    if !is_large(table) {
-        return field_names(table, &[], buffer);
-    }
-    let mut marks = [1u8; MOST_RECORDS];
-    repeats::marks::mark(table, Compared::FieldNames, &mut marks);
-    check_field_identifiers(table, &marks, buffer)
-}
-
-// Pass 5, where `sizes` and `elements` say which sizes may repeat a name, and `starts` where to search for what they name.
-fn sizes(table: &[Record], sizes: &[u8], elements: &[u8], starts: &[u16], buffer: &mut [u8]) -> Tally
-    requires { Marked table.now Sizes sizes.now × Marked table.now ElementSizes elements.now × SizeStarts table.now starts.now }
+// Pass 5.
+pub fn check_size_fields(table: &[Record], buffer: &mut [u8]) -> Tally
     ensures { log result buffer.new ≡ logged buffer.old (pass5 table.now) }
 {
+    let sizes = known_marks(table, Compared::Sizes);
+    let elements = known_marks(table, Compared::ElementSizes);
+    let starts = size_fields::starts::known(table);
+    let (sizes, elements, starts) = (as_slice(&sizes), as_slice(&elements), as_slice(&starts));
     run_places(
         table,
         kinds::SIZES,
@@ -124,50 +116,26 @@ fn sizes(table: &[Record], sizes: &[u8], elements: &[u8], starts: &[u16], buffer
     )
 }
 
-fn run_sizes(table: &[Record], buffer: &mut [u8]) -> Tally
-    ensures { log result buffer.new ≡ logged buffer.old (pass5 table.now) }
-{
-    if !is_large(table) {
-        return sizes(table, &[], &[], &[], buffer);
-    }
-    let mut repeated = [1u8; MOST_RECORDS];
-    let mut elements = [1u8; MOST_RECORDS];
-    let mut starts = [NO_PLACE; MOST_RECORDS];
-    repeats::marks::mark(table, Compared::Sizes, &mut repeated);
-    repeats::marks::mark(table, Compared::ElementSizes, &mut elements);
-    size_fields::starts::fill(table, &mut starts);
-    sizes(table, &repeated, &elements, &starts, buffer)
-}
-
-// Pass 6, where `starts` says of some names where their declarations start.
-fn fixed_values(table: &[Record], starts: &[u16], buffer: &mut [u8]) -> Tally
-    requires { Starts table.now starts.now }
+// Pass 6.
+pub fn check_fixed_fields(table: &[Record], buffer: &mut [u8]) -> Tally
     ensures { log result buffer.new ≡ logged buffer.old (pass6 table.now) }
 {
+    let starts = declarations::starts::known(table);
+    let names = Names::new(table, &starts);
     run_places(
         table,
         kinds::FIXED_FIELDS,
-        |place| (fixed_fields::at_place(table, starts, place), None),
+        |place| (fixed_fields::at_place(&names, place), None),
         buffer,
     )
 }
 
-fn run_fixed_values(table: &[Record], buffer: &mut [u8]) -> Tally
-    ensures { log result buffer.new ≡ logged buffer.old (pass6 table.now) }
-{
-    if !is_large(table) {
-        return fixed_values(table, &[], buffer);
-    }
-    let mut starts = [NO_PLACE; REMAINDERS];
-    declarations::starts::fill(table, &mut starts);
-    fixed_values(table, &starts, buffer)
-}
-
-// Pass 7, where `parents` says which names a child with a field may have for its parent.
-fn payloads(table: &[Record], parents: &[u8], buffer: &mut [u8]) -> Tally
-    requires { Parents table.now parents.now }
+// Pass 7.
+pub fn check_payload_fields(table: &[Record], buffer: &mut [u8]) -> Tally
     ensures { log result buffer.new ≡ logged buffer.old (pass7 table.now) }
 {
+    let parents = payload_fields::parents::known(table);
+    let parents = as_slice(&parents);
     run_places(
         table,
         kinds::PAYLOADS_AND_NAMED_DECLS,
@@ -176,19 +144,8 @@ fn payloads(table: &[Record], parents: &[u8], buffer: &mut [u8]) -> Tally
     )
 }
 
-fn run_payloads(table: &[Record], buffer: &mut [u8]) -> Tally
-    ensures { log result buffer.new ≡ logged buffer.old (pass7 table.now) }
-{
-    if !is_large(table) {
-        return payloads(table, &[], buffer);
-    }
-    let mut parents = [0u8; REMAINDERS];
-    payload_fields::parents::mark_parents(table, &mut parents);
-    payloads(table, &parents, buffer)
-}
-
 // Pass 8.
-fn run_arrays(table: &[Record], buffer: &mut [u8]) -> Tally
+pub fn check_array_fields(table: &[Record], buffer: &mut [u8]) -> Tally
     ensures { log result buffer.new ≡ logged buffer.old (pass8 table.now) }
 {
     run_places(
@@ -200,7 +157,7 @@ fn run_arrays(table: &[Record], buffer: &mut [u8]) -> Tally
 }
 
 // Pass 9.
-fn run_paddings(table: &[Record], buffer: &mut [u8]) -> Tally
+pub fn check_padding_fields(table: &[Record], buffer: &mut [u8]) -> Tally
     ensures { log result buffer.new ≡ logged buffer.old (pass9 table.now) }
 {
     run_places(
@@ -209,22 +166,4 @@ fn run_paddings(table: &[Record], buffer: &mut [u8]) -> Tally
         |place| (padding_fields::at_place(table, place), None),
         buffer,
     )
-}
-
-// All faults of a pass. Only pass 4 needs a bound on the table.
-pub fn run(pass: u8, table: &[Record], buffer: &mut [u8]) -> Tally
-    requires { pass ≡ 4 → length table.now ≤ 1600 }
-    ensures { log result buffer.new ≡ logged buffer.old (pass_faults pass table.now) }
-{
-    match pass {
-        1 => run_scopes(table, buffer),
-        3 => run_field_names(table, buffer),
-        4 => enum_declarations::check_enum_declarations(table, buffer),
-        5 => run_sizes(table, buffer),
-        6 => run_fixed_values(table, buffer),
-        7 => run_payloads(table, buffer),
-        8 => run_arrays(table, buffer),
-        9 => run_paddings(table, buffer),
-        _ => faults::no_faults(),
-    }
 }
