@@ -1,9 +1,10 @@
 -- Laws of pass 4: how many faults there can be, and what a turn of each loop adds. Assumes nothing.
-use Rattle.std.proofs.Common.{None, Option, Some, ℕ}
+use Rattle.std.proofs.Common.{ℕ}
 use Prim.Native.Nat.{ℕ, zero, suc, ◌+◌, ◌-◌, ◌*◌, ◌<◌, ◌≤◌}
 use mathlib.Core.Path.{◌≡◌, refl, sym, ◌∙◌}
 use mathlib.Core.List.{List, []}
 use native.Mathlib.Omega.{arith}
+use Rattle.std.proofs.lemmas.Grind.{common_steps}
 use native.Mathlib.Nat.{le_trans}
 use borrow.Author.Tests.{ne_eqb, eq-eqb}
 use lib.Dec.{eqb}
@@ -12,11 +13,10 @@ use Rattle.table.proofs.Searches.{false-true}
 use Rattle.rules.specs.Kinds.{is}
 use Rattle.std.proofs.lemmas.List.Folds.{list_any_at}
 use Rattle.std.specs.List.{list_any}
-use lib.ListN.{length, get_or, length-append}
+use lib.ListN.{length, get_or}
 use Rattle.rules.specs.Table.{at, blank}
-use Rattle.rules.specs.Places.{first, each, holds_at, up_to, member_count}
-use Rattle.rules.specs.Sorts.{sorted}
-use Rattle.rules.specs.EnumDeclarations.{tag_faults, tags_faults, range_at, ranges, before_at, overlap, overlaps, enum_faults, pass4_at, pass4}
+use Rattle.rules.specs.Places.{each, holds_at, member_count}
+use Rattle.rules.specs.EnumDeclarations.{tag_faults, tags_faults, range_at, ranges, overlap, overlaps, enum_faults, pass4_at, pass4}
 use Rattle.rules.specs.declared.Record.{Record}
 use Rattle.rules.specs.declared.Target.TheVariants.{Decl}
 use Rattle.table.proofs.Laws.{each-few, first-in, if-few, when-few}
@@ -24,12 +24,9 @@ use Rattle.enum_ranges.proofs.Sorts.{length-sorted}
 use Rattle.enum_ranges.proofs.overlaps.Laws.{overlap-few}
 use Rattle.enum_tags.proofs.Laws.{tag-few}
 
-range-few-at : (rs : List Record) (q : ℕ) → length (range_at rs q) ≤ 1
-range-few-at rs q = when-few (eqb (at rs q).kind 41) q
-
 ranges-few : (rs : List Record) (d n : ℕ) → length (ranges rs d n) ≤ n
 unfolding ranges
-ranges-few rs d n = omega (arith, each-few (λ i. range_at rs (d + 1 + i)) 1 n (λ i. range-few-at rs (d + 1 + i)))
+ranges-few rs d n = omega (arith, each-few (λ i. range_at rs (d + 1 + i)) 1 n (λ i. when-few (eqb (at rs (d + 1 + i)).kind 41) (d + 1 + i)))
 
 overlaps-few : (rs : List Record) (ps : List ℕ) → length (overlaps rs ps) ≤ length ps
 unfolding overlaps
@@ -42,16 +39,11 @@ tags-few rs d n h = each-few (λ i. tag_faults rs d n (d + 1 + i)) 1603 n (λ i.
 enum-few : (rs : List Record) (d n : ℕ) → n ≤ 1600 → length (enum_faults rs d n) ≤ 3000000
 unfolding enum_faults
 enum-few rs d n h =
-    simp length-append
-    (omega (arith, tags-few rs d n h, overlaps-few rs (sorted (before_at rs) (ranges rs d n)), length-sorted (before_at rs) (ranges rs d n), ranges-few rs d n))
+    grind (arith, common_steps, tags-few, overlaps-few, length-sorted, ranges-few)
 
 count-few : (rs : List Record) (d : ℕ) → member_count rs d ≤ length rs
 unfolding member_count
-count-few rs d = go (first (holds_at rs Decl) (d + 1) (length rs - (d + 1))) (first-in (holds_at rs Decl) (length rs) (d + 1))
-  where
-    go : (x : Option ℕ) → ((e : ℕ) → x ≡ Some e → (d + 1 ≤ e) × (e < length rs)) → up_to (length rs) (d + 1) x ≤ length rs
-    go (Some e) h = let z = h e refl in omega arith
-    go None h = omega arith
+count-few rs d = let h = first-in (holds_at rs Decl) (length rs) (d + 1) in grind (arith, common_steps)
 
 pub place-few : (rs : List Record) → length rs ≤ 1600 → (d : ℕ) → length (pass4_at rs d) ≤ 3000000
 unfolding pass4_at
