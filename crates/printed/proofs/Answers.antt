@@ -1,27 +1,23 @@
 -- Laws for the callers of `append_answer`: every answer meets its `requires`, and what it writes stands at the start. Assumes nothing.
-use Prim.Native.Nat.{ℕ, ◌+◌, ◌*◌, ◌≤◌}
-use mathlib.Core.Path.{◌≡◌, refl, ap, subst, sym, ◌∙◌}
+use Prim.Native.Nat.{ℕ, ◌+◌, ◌≤◌}
+use mathlib.Core.Path.{◌≡◌, ap, subst, sym, ◌∙◌}
 use mathlib.Core.List.{List, map}
-use mathlib.Core.Bool.{Bool, true, false}
 use native.Mathlib.Omega.{arith}
-use lib.Dec.{ltb}
 use lib.ListN.{length, take, drop, length-append, length-drop}
 use lib.Seq.{take-append_seam}
-use borrow.Author.Tests.{ltb-false}
-use Rattle.std.specs.Prelude.{if◌then◌else◌, None, Option, Some, Result, Ok, Err}
+use Rattle.std.specs.Prelude.{None, Option, Some, Result, Ok, Err}
 use Rattle.rules.specs.Bytes.{written}
-use Rattle.rules.specs.Table.{record_length, most_records, decode, encode}
+use Rattle.rules.specs.Table.{decode, encode}
 use Rattle.rules.specs.Layouts.{layout}
 use Rattle.rules.specs.Places.{first}
 use Rattle.rules.specs.DeclIdentifiers.{ordered}
 use Rattle.rules.specs.InlineGroups.{record_of, inlined, first_unfit}
 use Rattle.rules.specs.DesugarFlags.{desugared, first_loose}
-use Rattle.rules.specs.Replies.{Answer, answered, numbered, finds_faults, fitted, by_loose, by_unfit, by_size, by_pass, by_passes, by_layout, answer}
+use Rattle.rules.specs.Replies.{numbered, finds_faults, fitted, by_loose, by_unfit, by_size, by_pass, by_passes, by_layout, answer}
 use Rattle.rules.specs.declared.Record.{Record}
 use Rattle.rules.specs.declared.Inlined.{Inlined}
 use Rattle.rules.specs.declared.LayoutError.{LayoutError}
 use Rattle.rules.specs.declared.LayoutError.TheVariants as layouts
-use Rattle.rules.specs.declared.Reply.TheVariants.{Swollen, Overlisted, NoRoom, Accepted}
 use Rattle.printed.specs.Whole.{records_behind, Whole}
 
 -- what is written from the start on fits, and is what stands there
@@ -34,20 +30,10 @@ pub written-first : (b s : List ℕ) {c : List ℕ} → c ≡ written b 0 s → 
 written-first b s e =
     (subst (λ (l : List ℕ). length s ≤ length l) (sym e) (written-long b s).0, ap (take (length s)) e ∙ take-append_seam s _)
 
--- by a test that the second of two answers may use
-choice : (b : Bool) (x y : Answer) → Whole x → (b ≡ false → Whole y) → Whole (if b then x else y)
-choice true x y h g = h
-choice false x y h g = g refl
-
 -- an accepted table fits into the table buffer, which keeps its length
 fitted-whole : (dr : List Record) (t f : List ℕ) → Whole (fitted dr t f)
 unfolding fitted numbered records_behind
-fitted-whole dr t f =
-    let n : ℕ = record_length * length dr in
-    let accepted : Answer = answered (Accepted (length dr)) (written t 0 (encode dr)) f in
-    choice (ltb most_records (length dr)) (answered Overlisted t f) (if ltb (length t) n then answered (NoRoom n) t f else accepted) (omega arith)
-    λ _. choice (ltb (length t) n) (answered (NoRoom n) t f) accepted (omega arith)
-    λ e. omega (arith, ltb-false (length t) n e, (written-long t (encode dr)).1)
+fitted-whole dr t f = grind (arith, written-long t (encode dr))
 
 -- no records stand behind the other replies
 loose-whole : (rs : List Record) (t f : List ℕ) (x : Option ℕ) → Whole (by_loose rs t f x)
@@ -65,7 +51,7 @@ unfolding by_pass by_size numbered records_behind
 pass-whole rs t f (Some k) = omega arith
 pass-whole rs t f None =
     let xs : List Inlined = inlined (ordered rs) in
-    choice (ltb most_records (length xs)) (answered Swollen t f) (by_unfit xs t f (first_unfit xs)) (omega arith) λ _. unfit-whole xs t f (first_unfit xs)
+    grind (arith, unfit-whole xs t f (first_unfit xs))
 
 layout-whole : (i t f : List ℕ) (x : Result (Unit {0}) LayoutError) → Whole (by_layout i t f x)
 unfolding by_layout by_passes numbered records_behind

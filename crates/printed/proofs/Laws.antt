@@ -1,15 +1,14 @@
 -- Laws of the lines that are printed, and of how long they are. Assumes nothing.
-use Prim.Native.Nat.{ℕ, ◌+◌, ◌*◌, ◌<◌, ◌≤◌}
-use mathlib.Core.Path.{◌≡◌, refl, sym, ap, subst}
-use mathlib.Core.List.{List, [], ◌∷◌}
+use Prim.Native.Nat.{ℕ, ◌+◌, ◌*◌, ◌≤◌}
+use mathlib.Core.Path.{◌≡◌, refl, sym, ap}
+use mathlib.Core.List.{List, [], ◌∷◌, ◌++◌}
 use mathlib.Core.Bool.{Bool, true, false}
-use native.Mathlib.Nat.{mul-suc, mul-le-mul_left, le_antisymm}
 use native.Mathlib.Omega.{arith}
 use lib.Dec.{eqb}
 use lib.ListN.{length}
-use borrow.Author.Tests.{ne_eqb}
 use Rattle.std.specs.Prelude.{if◌then◌else◌}
-use Rattle.rules.specs.Printed.{decimal, line, record_line, fault_line, detail}
+use Rattle.rules.specs.Printed.{decimal, line, record_line, fault_line, record_lines, fault_lines, detail}
+use Rattle.rules.specs.Bytes.{written}
 use Rattle.rules.specs.Table.{record_at}
 use Rattle.rules.specs.Faults.{fault_at}
 use Rattle.rules.specs.Places.{each}
@@ -18,20 +17,12 @@ use Rattle.rules.specs.declared.Reply.{Reply}
 use Rattle.rules.specs.declared.Reply.TheVariants.{Uneven, TooLong, Malformed, Faulty, Swollen, Unfit, Loose, Overlisted, NoRoom, Accepted}
 use Rattle.rules.specs.declared.Record.{Record}
 use Rattle.rules.specs.declared.Fault.{Fault}
-use Rattle.table.proofs.Laws.{each_more, each-few}
-use Rattle.printed_text.specs.TextAppended.{TextAppended}
-use Rattle.printed_text.proofs.Laws.{append-none, append-then, length-decimal, length-line}
+use Rattle.table.proofs.Laws.{each_more}
+use Rattle.records.proofs.Laws.{length-decode, at-decode}
+use Rattle.printed_text.specs.TextAppended.{put_text}
+use Rattle.printed_text.proofs.Laws.{puts, put-bytes, length-decimal, length-line}
+use Rattle.printed_text.proofs.replies.Laws.{length-reply}
 use Rattle.printed.specs.Whole.{records_behind}
-
--- a fault's line without a secondary location, and with one
-module _ {b c : List ℕ} {i j : ℕ} (f : Fault) where
-  pub append-single : f.secondary ≡ 0 → TextAppended b i (line (decimal f.code) (f.start ∷ f.end ∷ [])) c j → TextAppended b i (fault_line f) c j
-  unfolding fault_line
-  append-single e x = rw e x
-
-  pub append-double : (f.secondary ≡ 0 → ⊥) → TextAppended b i (line (decimal f.code) (f.start ∷ f.end ∷ f.start2 ∷ f.end2 ∷ [])) c j → TextAppended b i (fault_line f) c j
-  unfolding fault_line
-  append-double e x = rw (ne_eqb _ _ e) x
 
 -- how long lines are
 pub length-record : (r : Record) → length (record_line r) ≤ 210
@@ -48,29 +39,32 @@ length-fault f = go (eqb f.secondary 0)
     go true = omega (arith, length-line (decimal f.code) (f.start ∷ f.end ∷ []), length-decimal f.code)
     go false = omega (arith, length-line (decimal f.code) (f.start ∷ f.end ∷ f.start2 ∷ f.end2 ∷ []), length-decimal f.code)
 
--- lines place by place, each of at most k bytes: none yet, one more, and all
-pub each_none : (f : ℕ → List ℕ) (b : List ℕ) (i : ℕ) → TextAppended b i (each f 0) b i
-unfolding each
-each_none f b i = append-none b i
+-- the lines of one record more, and of one fault more
+module _ (t : List ℕ) where
+  pub records-none : record_lines t 0 ≡ []
+  unfolding record_lines each
+  records-none = refl
 
-module _ (f : ℕ → List ℕ) (k n : ℕ) (short : (p : ℕ) → length (f p) ≤ k) {b c : List ℕ} {i j : ℕ} (p : ℕ) (room : i + k * n ≤ length b) (same : length c ≡ length b) (so_far : TextAppended b i (each f p) c j) where
-  pub line-fits : p < n → j + k ≤ length c
-  line-fits h = omega (arith, so_far.place, each-few f k p short, mul-suc k p, mul-le-mul_left k h)
+  pub records-more : (p : ℕ) → record_lines t (p + 1) ≡ record_lines t p ++ record_line (record_at t (40 * p))
+  unfolding record_lines
+  records-more p = each_more (λ q. record_line (record_at t (40 * q))) p
 
-  pub append-each : p < n → {s d : List ℕ} {m : ℕ} → s ≡ f p → TextAppended c j s d m → TextAppended b i (each f (p + 1)) d m
-  append-each h {s} {d} {m} e x =
-      subst (λ (l : List ℕ). TextAppended b i l d m) (sym (each_more f p))
-      (append-then (each f p) (f p) (omega arith) so_far (subst (λ (l : List ℕ). TextAppended c j l d m) e x))
+  pub faults-none : fault_lines t 0 ≡ []
+  unfolding fault_lines each
+  faults-none = refl
 
-  pub each-done : p ≤ n → n ≤ p → TextAppended b i (each f n) c j
-  each-done h g = subst (λ (q : ℕ). TextAppended b i (each f q) c j) (le_antisymm h g) so_far
+  pub faults-more : (p : ℕ) → fault_lines t (p + 1) ≡ fault_lines t p ++ fault_line (fault_at t (20 * p))
+  unfolding fault_lines
+  faults-more p = each_more (λ q. fault_line (fault_at t (20 * q))) p
 
--- the lines at a place
-abbrev pub record_line_at : List ℕ → ℕ → List ℕ
-record_line_at t p = record_line (record_at t (40 * p))
+pub ruleset record_laws = (puts, records-none, records-more, length-record, length-decode, at-decode)
 
-abbrev pub fault_line_at : List ℕ → ℕ → List ℕ
-fault_line_at b p = fault_line (fault_at b (20 * p))
+pub put-start : (b s : List ℕ) → put_text b 0 s ≡ written b 0 s
+put-start b s = sym (put-bytes b 0 s)
+
+pub ruleset answer_laws = (puts, put-start, length-reply)
+
+pub ruleset fault_laws = (puts, faults-none, faults-more, length-fault)
 
 -- nothing stands behind the replies other than Faulty and Accepted
 pub no-detail : (r : Reply) → ((x y : ℕ) → r ≡ Faulty x y → ⊥) → ((x : ℕ) → r ≡ Accepted x → ⊥) → (t f : List ℕ) → detail (numbered r) t f ≡ []

@@ -12,40 +12,42 @@ use rules::limits::FAULT_LENGTH;
 use rules::{Fault, Record, Reply};
 
 // A record's line: ten numbers.
+#[tactic(auto, unfolding(rules::specs::Printed::record_line))]
 fn append_record(text: &mut [u8], at: usize, r: Record) -> usize
     requires { at + 210 ≤ length text.old }
     ensures { TextAppended text.old at (record_line r) text.new result }
 {
     let ns = [
-        r.marks as u64,
-        r.name as u64,
-        r.second as u64,
-        r.third as u64,
+        u64::from(r.marks),
+        u64::from(r.name),
+        u64::from(r.second),
+        u64::from(r.third),
         r.one,
         r.two,
-        r.key as u64,
-        r.start as u64,
-        r.end as u64,
+        u64::from(r.key),
+        u64::from(r.start),
+        u64::from(r.end),
     ];
-    printed_text::append_list(text, at, r.kind as u64, &ns)
+    printed_text::append_list(text, at, u64::from(r.kind), &ns)
 }
 
 // A fault's line: its code and its primary location, and the secondary one where there is one.
+#[tactic(auto, unfolding(rules::specs::Printed::fault_line))]
 fn append_fault(text: &mut [u8], at: usize, fault: Fault) -> usize
     requires { at + 105 ≤ length text.old }
     ensures { TextAppended text.old at (fault_line fault) text.new result }
 {
     if fault.secondary == 0 {
-        let ns = [fault.start as u64, fault.end as u64];
-        return printed_text::append_list(text, at, fault.code as u64, &ns);
+        let ns = [u64::from(fault.start), u64::from(fault.end)];
+        return printed_text::append_list(text, at, u64::from(fault.code), &ns);
     }
     let ns = [
-        fault.start as u64,
-        fault.end as u64,
-        fault.start2 as u64,
-        fault.end2 as u64,
+        u64::from(fault.start),
+        u64::from(fault.end),
+        u64::from(fault.start2),
+        u64::from(fault.end2),
     ];
-    printed_text::append_list(text, at, fault.code as u64, &ns)
+    printed_text::append_list(text, at, u64::from(fault.code), &ns)
 }
 
 // The fault in the 20 bytes from `from`.
@@ -64,6 +66,7 @@ fn fault_at(faults: &[u8], from: usize) -> Fault
 }
 
 // The lines of the first `count` records of a table.
+#[tactic(auto, using(crate::proofs::Laws::record_laws))]
 fn append_records(text: &mut [u8], at: usize, table: &[u8], count: usize) -> usize
     requires { (at + 210 * count ≤ length text.old) × (40 * count ≤ length table.now) }
     ensures { TextAppended text.old at (record_lines table.now count) text.new result }
@@ -76,6 +79,7 @@ fn append_records(text: &mut [u8], at: usize, table: &[u8], count: usize) -> usi
 }
 
 // The lines of the first `count` faults of a fault buffer.
+#[tactic(auto, using(crate::proofs::Laws::fault_laws))]
 fn append_faults(text: &mut [u8], at: usize, faults: &[u8], count: usize) -> usize
     requires { (at + 105 * count ≤ length text.old) × (20 * count ≤ length faults.now) }
     ensures { TextAppended text.old at (fault_lines faults.now count) text.new result }
@@ -107,6 +111,7 @@ fn append_detail(text: &mut [u8], at: usize, reply: Reply, table: &[u8], faults:
 }
 
 // All that is printed, from the start of the text; it ends at the place returned.
+#[tactic(auto, using(crate::proofs::Laws::answer_laws), unfolding(rules::specs::Printed::printed))]
 pub fn append_answer(text: &mut [u8], reply: Reply, table: &[u8], faults: &[u8]) -> usize
     requires { (340000 ≤ length text.old) × (length table.now ≤ 64000) × (length faults.now ≤ 64000) × Whole (answered reply table.now faults.now) }
     ensures { TextBegins text.old (printed (answered reply table.now faults.now)) text.new result }

@@ -8,6 +8,7 @@ ghost use Rattle.rules.specs.Printed.{decimal, listing, line};
 ghost use Rattle.printed_text.specs.TextAppended.{TextAppended};
 
 // The decimal digits of `number`.
+#[tactic(auto, using(crate::proofs::Laws::digits))]
 fn append_digits(text: &mut [u8], at: usize, number: u64) -> usize
     requires { at + 20 ≤ length text.old }
     ensures { TextAppended text.old at (decimal number) text.new result }
@@ -22,6 +23,7 @@ fn append_digits(text: &mut [u8], at: usize, number: u64) -> usize
 }
 
 // Numbers, each behind a blank.
+#[tactic(auto, using(crate::proofs::Laws::lines))]
 fn append_numbers(text: &mut [u8], at: usize, numbers: &[u64]) -> usize
     requires { at + 21 * length numbers.now ≤ length text.old }
     ensures { TextAppended text.old at (listing numbers.now) text.new result }
@@ -35,6 +37,7 @@ fn append_numbers(text: &mut [u8], at: usize, numbers: &[u64]) -> usize
 }
 
 // Numbers and a newline: what stands in a line behind its first word or number.
+#[tactic(auto, using(crate::proofs::Laws::lines))]
 fn append_rest(text: &mut [u8], at: usize, numbers: &[u64]) -> usize
     requires { at + 21 * length numbers.now + 1 ≤ length text.old }
     ensures { TextAppended text.old at (listing numbers.now ++ 10 ∷ []) text.new result }
@@ -45,6 +48,7 @@ fn append_rest(text: &mut [u8], at: usize, numbers: &[u64]) -> usize
 }
 
 // A line of a word and numbers.
+#[tactic(auto, using(crate::proofs::Laws::lines))]
 pub(crate) fn append_line(text: &mut [u8], at: usize, word: &[u8], numbers: &[u64]) -> usize
     requires { at + length word.now + 21 * length numbers.now + 1 ≤ length text.old }
     ensures { TextAppended text.old at (line word.now numbers.now) text.new result }
@@ -54,6 +58,7 @@ pub(crate) fn append_line(text: &mut [u8], at: usize, word: &[u8], numbers: &[u6
 }
 
 // A line of numbers, of which there is at least one.
+#[tactic(auto, using(crate::proofs::Laws::lines))]
 pub fn append_list(text: &mut [u8], at: usize, first: u64, others: &[u64]) -> usize
     requires { at + 21 * length others.now + 21 ≤ length text.old }
     ensures { TextAppended text.old at (line (decimal first) others.now) text.new result }

@@ -2,7 +2,8 @@
 use native.Mathlib.Omega.{arith}
 use Rattle.rules.specs.Replies.{numbered}
 use Rattle.rules.specs.Printed.{detail}
-use Rattle.printed_text.proofs.Laws.{append-none}
+use mathlib.Core.Path.{sym}
+use Rattle.printed_text.proofs.Laws.{put-nil}
 use Rattle.printed.proofs.Laws.{no-detail, records-behind}
 use Rattle.printed.proofs.append_detail.Goals as goal
 
@@ -22,4 +23,4 @@ returns-in-Accepted c =
     rw c.in-Accepted.is c.append_records.ensures
 
 pub returns-in_default : goal.returns-in_default
-returns-in_default c = rw (no-detail _ c.in_default.not-Faulty c.in_default.not-Accepted _ _) (append-none _ _)
+returns-in_default c = rw (no-detail _ c.in_default.not-Faulty c.in_default.not-Accepted _ _) (sym (put-nil _ _), omega arith)

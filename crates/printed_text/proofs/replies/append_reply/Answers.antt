@@ -17,7 +17,7 @@ returns-in-Malformed c = rw c.in-Malformed.is c.append_line-in-Malformed.ensures
 
 pub returns-in-Faulty : goal.returns-in-Faulty
 unfolding reply_line numbered names ascii
-returns-in-Faulty c = rw c.in-Faulty.is c.append_line-in-Faulty.ensures
+returns-in-Faulty c = rw (c.in-Faulty.is, ← c.from.ensures) c.append_line-in-Faulty.ensures
 
 pub returns-in-Swollen : goal.returns-in-Swollen
 unfolding reply_line numbered names ascii
@@ -25,11 +25,11 @@ returns-in-Swollen c = rw c.in-Swollen.is c.append_line-in-Swollen.ensures
 
 pub returns-in-Unfit : goal.returns-in-Unfit
 unfolding reply_line numbered names ascii
-returns-in-Unfit c = rw c.in-Unfit.is c.append_line-in-Unfit.ensures
+returns-in-Unfit c = rw (c.in-Unfit.is, ← c.from-in-Unfit.ensures) c.append_line-in-Unfit.ensures
 
 pub returns-in-Loose : goal.returns-in-Loose
 unfolding reply_line numbered names ascii
-returns-in-Loose c = rw c.in-Loose.is c.append_line-in-Loose.ensures
+returns-in-Loose c = rw (c.in-Loose.is, ← c.from-in-Loose.ensures) c.append_line-in-Loose.ensures
 
 pub returns-in-Overlisted : goal.returns-in-Overlisted
 unfolding reply_line numbered names ascii
