@@ -1,14 +1,14 @@
 -- Constraints a step at a time: the stack, and what the constraint that holds makes of a record. Assumes nothing.
-use Rattle.std.proofs.Common.{None, Option, Some, ℕ}
+use Rattle.std.proofs.Common.{ℕ}
 use Prim.Native.Nat.{ℕ, suc, zero, ◌+◌, ◌-◌, ◌<◌, ◌≤◌}
 use mathlib.Core.Path.{◌≡◌, refl, sym, ap, ◌∙◌}
 use mathlib.Core.List.{List, [], ◌∷◌, ◌++◌, append_assoc, append-nil}
 use native.Mathlib.Omega.{arith}
 use native.Mathlib.Numerals.{add-one}
-use borrow.Author.Tests.{eq-eqb, ne_eqb}
 use lib.ListN.{length, take, set}
-use Rattle.std.proofs.Common.{find, reverse, get_or, Bool, true, false, MatchOption}
+use Rattle.std.proofs.Common.{find, reverse, get_or, Bool, MatchOption}
 use Rattle.std.proofs.lemmas.List.{reverse-append}
+use Rattle.std.proofs.lemmas.Grind.{common_steps}
 use Rattle.rules.specs.Table.{at}
 use Rattle.rules.specs.Places.{nearest}
 use lib.Dec.{eqb}
@@ -24,15 +24,15 @@ use Rattle.group_constraints.specs.Constraints.{constraints_from}
 module _ (rs : List Record) (n p : ℕ) where
   pub more-constraint : p < n → (at rs p).kind ≡ 10 → constraints rs p (n - p) ≡ p ∷ constraints rs (p + 1) (n - (p + 1))
   unfolding constraints
-  more-constraint h e = rw (left-suc n p h, constraints, eq-eqb _ _ e)
+  more-constraint h e = rw (left-suc n p h) (grind (arith, common_steps))
 
   pub more-condition : p < n → (at rs p).kind ≡ 11 → constraints rs p (n - p) ≡ constraints rs (p + 1) (n - (p + 1))
   unfolding constraints
-  more-condition h e = rw (left-suc n p h, constraints, e)
+  more-condition h e = rw (left-suc n p h) (grind (arith, common_steps))
 
   pub more-other : p < n → ¬ ((at rs p).kind ≡ 10) → ¬ ((at rs p).kind ≡ 11) → constraints rs p (n - p) ≡ []
   unfolding constraints
-  more-other h e f = rw (left-suc n p h, constraints, ne_eqb _ _ e, ne_eqb _ _ f)
+  more-other h e f = rw (left-suc n p h) (grind (arith, common_steps))
 
   pub more-end : n ≤ p → constraints rs p (n - p) ≡ []
   unfolding constraints
@@ -80,34 +80,11 @@ module _ {rs : List Record} {env₀ : List ℕ} {n p : ℕ} {env : List ℕ} {m 
 find-nearest : (f : ℕ → Bool) (env : List ℕ) (n : ℕ) → n ≤ length env → find f (reverse (take n env)) ≡ entry_at env (nearest (λ i. f (get_or env i 0)) n)
 unfolding nearest
 find-nearest f env zero h = refl
-find-nearest f env (suc n) h = go (find-nearest f env n (omega arith)) (f (get_or env n 0)) refl
+find-nearest f env (suc n) h = last (find-nearest f env n (omega arith))
   where
-    last : reverse (take (suc n) env) ≡ get_or env n 0 ∷ reverse (take n env)
-    last = rw (take-suc env n 0 (omega arith), reverse-append)
-
-    go : find f (reverse (take n env)) ≡ entry_at env (nearest (λ i. f (get_or env i 0)) n) → (b : Bool) → f (get_or env n 0) ≡ b → find f (reverse (take (suc n) env)) ≡ entry_at env (nearest (λ i. f (get_or env i 0)) (suc n))
-    go r true e = rw (last, nearest, e)
-    go r false e = rw (last, nearest, e) r
+    last : find f (reverse (take n env)) ≡ entry_at env (nearest (λ i. f (get_or env i 0)) n) → find f (reverse (take (suc n) env)) ≡ entry_at env (nearest (λ i. f (get_or env i 0)) (suc n))
+    last r = rw (take-suc env n 0 (omega arith), reverse-append) (grind (arith, common_steps))
 
 pub find-lookup : (rs : List Record) (env : List ℕ) (x : ℕ) → find (λ q. eqb (at rs q).name x) (reverse env) ≡ lookup rs env x
 unfolding lookup
 find-lookup rs env x = rw take-length at (find-nearest (λ q. eqb (at rs q).name x) env (length env) (omega arith))
-
-module _ (rs : List Record) (env : List ℕ) (r : Record) {x : Inlined} where
-  -- as fix makes it from the constraint that was found
-  under-found : (fix : Record → Record → Inlined) (f : Option ℕ) → MatchOption f (x ≡ kept r) (λ q. x ≡ fix r (at rs q)) → x ≡ under fix rs r f
-  unfolding under
-  under-found fix None h = h
-  under-found fix (Some q) h = h
-
-  pub scalar-made : MatchOption (lookup rs env r.name) (x ≡ kept r) (λ q. x ≡ fixed_scalar r (at rs q)) → r.kind ≡ 31 → x ≡ inlined_record rs env r
-  unfolding inlined_record
-  scalar-made h k = rw (eq-eqb _ _ k) (under-found fixed_scalar _ h)
-
-  pub enum_made : MatchOption (lookup rs env r.name) (x ≡ kept r) (λ q. x ≡ fixed_enum r (at rs q)) → ¬ (r.kind ≡ 31) → r.kind ≡ 33 → x ≡ inlined_record rs env r
-  unfolding inlined_record
-  enum_made h j k = rw (ne_eqb _ _ j, eq-eqb _ _ k) (under-found fixed_enum _ h)
-
-pub other-kept : (rs : List Record) (env : List ℕ) (r : Record) → ¬ (r.kind ≡ 31) → ¬ (r.kind ≡ 33) → kept r ≡ inlined_record rs env r
-unfolding inlined_record
-other-kept rs env r j k = rw (ne_eqb _ _ j, ne_eqb _ _ k)

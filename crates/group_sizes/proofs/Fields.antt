@@ -1,29 +1,25 @@
 -- The records behind a declaration, one at a time: whose they are, whether they belong to a group field, and how many they become.
 -- Assumes nothing.
 use Rattle.std.proofs.Common.{Option, Some, ℕ}
-use Prim.Native.Nat.{ℕ, ◌+◌, ◌<◌, ◌≤◌}
-use mathlib.Core.Path.{◌≡◌, sym}
+use Prim.Native.Nat.{ℕ, ◌+◌, ◌<◌}
+use mathlib.Core.Path.{◌≡◌}
 use mathlib.Core.List.{List}
 use mathlib.Core.Bool.{Bool, true, false, ◌&&◌, ◌||◌}
 use mathlib.Core.Logic.{inl, inr}
 use native.Mathlib.Omega.{arith}
 use native.Mathlib.Numerals.{add-one}
-use borrow.Author.Tests.{ne_eqb, leb-true}
-use lib.Dec.{eqb, leb}
+use lib.Dec.{eqb}
 use lib.ListN.{length}
+use Rattle.std.proofs.lemmas.Grind.{common_steps}
 use Rattle.rules.specs.Table.{at}
 use Rattle.rules.specs.Places.{nearest, holds_at}
 use Rattle.rules.specs.Kinds.{is_decl}
 use Rattle.rules.specs.InlineGroups.{is_constraint_or_condition, after_group}
 use Rattle.rules.specs.declared.Record.{Record}
 use Rattle.rules.specs.declared.Target.TheVariants.{Decl}
-use Rattle.table.proofs.Searches.{and-true}
 use Rattle.table.proofs.Laws.{left-suc, left-none}
 use Rattle.group_sizes.specs.Members.{Ends}
 use Rattle.group_sizes.specs.Sizes.{size_at, fields_size, size_from}
-
-decl-below : (k : ℕ) → is_decl k ≡ true → k ≤ 7
-decl-below k e = leb-true k 7 (and-true (leb 1 k) (leb k 7) e).1
 
 -- ---- declarations and the places after them
 
@@ -38,9 +34,7 @@ module _ (rs : List Record) where
 
   pub after-start : (d : ℕ) → is_decl (at rs d).kind ≡ true → false ≡ after_group rs (d + 1)
   unfolding after_group
-  after-start d e =
-      let k = decl-below (at rs d).kind e in
-      sym (rw (add-one d, after_group, ne_eqb (at rs d).kind 34 (λ z. omega arith), ne_eqb (at rs d).kind 10 (λ z. omega arith), ne_eqb (at rs d).kind 11 (λ z. omega arith)))
+  after-start d e = rw (add-one d) (grind (arith, common_steps))
 
   pub after_next : (p : ℕ) {b : Bool} → b ≡ after_group rs p → (eqb (at rs p).kind 34 || (is_constraint_or_condition (at rs p).kind && b)) ≡ after_group rs (p + 1)
   unfolding after_group

@@ -1,14 +1,15 @@
 -- The sizes, computed in the order of the table. Assumes nothing.
 use Rattle.std.proofs.Common.{Some}
 use Prim.Native.Nat.{ℕ, zero, suc, ◌+◌, ◌-◌, ◌*◌, ◌<◌, ◌≤◌, min}
-use mathlib.Core.Path.{◌≡◌, refl, sym, ap, ◌∙◌}
+use mathlib.Core.Path.{◌≡◌, refl, sym, ◌∙◌}
 use mathlib.Core.List.{List}
-use mathlib.Core.Bool.{Bool, true, false}
+use mathlib.Core.Bool.{true, false}
 use native.Mathlib.Omega.{arith}
 use native.Mathlib.Numerals.{add-one}
-use native.Mathlib.Decide.{dec_lt}
-use lib.Dec.{eqb}
+use Rattle.std.proofs.lemmas.Grind.{common_steps}
 use borrow.Author.Tests.{eq-eqb}
+use lib.Dec.{eqb}
+use Rattle.std.specs.Prelude.{if◌then◌else◌}
 use lib.ListN.{length, get_or, set, length-set}
 use lib.Seq.{get_or-set_same, get_or-set_other}
 use Rattle.rules.specs.Table.{at}
@@ -22,7 +23,6 @@ use Rattle.group_sizes.specs.Members.{MemberIn, Ends}
 use Rattle.group_sizes.specs.declared.members.Member.{Member}
 use Rattle.group_sizes.specs.Targets.{TargetsKnown}
 use Rattle.group_sizes.specs.Sizes.{size_here, size_at, fields_size, size_from, total_size, Sized}
-use Rattle.table.proofs.Searches.{false-true}
 use Rattle.group_sizes.proofs.Known.{named_in, group-before}
 use Rattle.group_sizes.proofs.Fields.{here-start, here-next, size-next, size-end}
 
@@ -59,23 +59,18 @@ module _ {rs : List Record} {targets sizes : List ℕ} {d s : ℕ} where
 module _ (rs : List Record) (t : GroupsFirst rs) (targets : List ℕ) (y : TargetsKnown rs targets (length rs)) (sizes : List ℕ) (q v d : ℕ) (l : d ≤ q) where
   at-kept : (p : ℕ) → p < length rs → nearest (holds_at rs Decl) p ≡ Some d → size_at targets (set sizes q v) rs p ≡ size_at targets sizes rs p
   unfolding size_at
-  at-kept p k h = go (eqb (at rs p).kind 34) refl
-    where
-      go : (b : Bool) → eqb (at rs p).kind 34 ≡ b → size_at targets (set sizes q v) rs p ≡ size_at targets sizes rs p
-      go true i =
-          let b = group-before rs t p k i h (y.right p k i) in
-          rw (size_at, i) (get_or-set_other sizes q (get_or targets p 0) v 0 (λ z. omega arith))
-      go false i = rw (size_at, i)
+  at-kept p k h =
+      let b : eqb (at rs p).kind 34 ≡ true → get_or targets p 0 < d = λ i. group-before rs t p k i h (y.right p k i) in
+      grind (arith, common_steps, b, get_or-set_other sizes q (get_or targets p 0) v 0)
 
   fields-kept : (n p : ℕ) → p + n ≤ length rs → nearest (holds_at rs Decl) p ≡ Some d → fields_size targets (set sizes q v) rs p n ≡ fields_size targets sizes rs p n
   unfolding fields_size
   fields-kept zero p k h = refl
-  fields-kept (suc n) p k h = go (λ o. fields-kept n (p + 1) (omega arith) (here-next rs p o h)) (is_decl (at rs p).kind) refl
+  fields-kept (suc n) p k h = more (at-kept p (omega arith) h) (λ o. fields-kept n (p + 1) (omega arith) (here-next rs p o h))
     where
-      go : (is_decl (at rs p).kind ≡ false → fields_size targets (set sizes q v) rs (p + 1) n ≡ fields_size targets sizes rs (p + 1) n)
-          → (b : Bool) → is_decl (at rs p).kind ≡ b → fields_size targets (set sizes q v) rs p (suc n) ≡ fields_size targets sizes rs p (suc n)
-      go r true i = rw (fields_size, i)
-      go r false i = rw (fields_size, i, at-kept p (omega arith) h, r i)
+      more : size_at targets (set sizes q v) rs p ≡ size_at targets sizes rs p → (is_decl (at rs p).kind ≡ false → fields_size targets (set sizes q v) rs (p + 1) n ≡ fields_size targets sizes rs (p + 1) n)
+          → fields_size targets (set sizes q v) rs p (suc n) ≡ fields_size targets sizes rs p (suc n)
+      more e f = grind (arith, common_steps)
 
   from-kept : d < length rs → is_decl (at rs d).kind ≡ true → size_from targets (set sizes q v) rs (d + 1) ≡ size_from targets sizes rs (d + 1)
   from-kept k i = fields-kept (length rs - (d + 1)) (d + 1) (omega arith) (here-start rs d i)
@@ -84,29 +79,16 @@ module _ (rs : List Record) (t : GroupsFirst rs) (targets : List ℕ) (y : Targe
 
 module _ {rs : List Record} {targets sizes : List ℕ} {q : ℕ} (w : Sized rs targets sizes q) where
   pub sized-other : is_decl (at rs q).kind ≡ false → Sized rs targets sizes (q + 1)
-  sized-other o = record { long = w.long; right = λ d h i. go d i (dec_lt d q) h }
-    where
-      go : (d : ℕ) → is_decl (at rs d).kind ≡ true → Dec (d < q) → d < q + 1 → get_or sizes d 0 ≡ min 1601 (size_from targets sizes rs (d + 1))
-      go d i (yes z) h = w.right d z i
-      go d i (no z) h = let e : d ≡ q = omega arith in false-true (sym (rw e o) ∙ i)
+  sized-other o = record { long = w.long; right = λ d h i. grind (arith, common_steps, w.right d) }
 
   pub sized-next : {v s : ℕ} → GroupsFirst rs → TargetsKnown rs targets (length rs) → q < length rs → is_decl (at rs q).kind ≡ true → v ≡ min 1601 s → s ≡ size_from targets sizes rs (q + 1) → Sized rs targets (set sizes q v) (q + 1)
-  sized-next {v} {s} t y l i e f = record { long = (let a = length-set sizes q v in let b = w.long in omega arith); right = λ d h j. go d j (dec_lt d q) h }
+  sized-next {v} {s} t y l i e f = record { long = (let a = length-set sizes q v in let b = w.long in omega arith); right = λ d h j. right d h j (from-kept rs t targets y sizes q v d (omega arith) (omega arith) j) }
     where
-      go : (d : ℕ) → is_decl (at rs d).kind ≡ true → Dec (d < q) → d < q + 1 → get_or (set sizes q v) d 0 ≡ min 1601 (size_from targets (set sizes q v) rs (d + 1))
-      go d j (yes z) h =
-          rw (from-kept rs t targets y sizes q v d (omega arith) (omega arith) j, get_or-set_other sizes q d v 0 (λ y. omega arith)) (w.right d z j)
-      go d j (no z) h =
-          let x : d ≡ q = omega arith in
-          let b = w.long in
-          rw (x, from-kept rs t targets y sizes q v q (omega arith) l i, get_or-set_same sizes q v 0 (omega arith)) (e ∙ ap (min 1601) f)
+      right : (d : ℕ) → d < q + 1 → is_decl (at rs d).kind ≡ true → size_from targets (set sizes q v) rs (d + 1) ≡ size_from targets sizes rs (d + 1) → get_or (set sizes q v) d 0 ≡ min 1601 (size_from targets (set sizes q v) rs (d + 1))
+      right d h j k = grind (arith, common_steps, w.long, w.right d, get_or-set_same sizes q v 0, get_or-set_other sizes q d v 0)
 
 -- ---- the whole
 
-pub total-next : (sizes : List ℕ) (rs : List Record) (d : ℕ) → is_kept (at rs d).kind ≡ true → total_size sizes rs (d + 1) ≡ total_size sizes rs d + (1 + get_or sizes d 0)
+pub total-next : (sizes : List ℕ) (rs : List Record) (d : ℕ) → total_size sizes rs (d + 1) ≡ total_size sizes rs d + (if is_kept (at rs d).kind then 1 + get_or sizes d 0 else 0)
 unfolding total_size
-total-next sizes rs d i = rw (add-one d, total_size, i)
-
-pub total-other : (sizes : List ℕ) (rs : List Record) (d : ℕ) → is_kept (at rs d).kind ≡ false → total_size sizes rs (d + 1) ≡ total_size sizes rs d
-unfolding total_size
-total-other sizes rs d i = rw (add-one d, total_size, i) (omega arith)
+total-next sizes rs d = rw (add-one d, total_size)

@@ -3,19 +3,19 @@ use Rattle.std.proofs.Common.{Some}
 use Prim.Native.Nat.{ℕ, zero, suc, ◌+◌, ◌-◌, ◌<◌, ◌≤◌, min}
 use mathlib.Core.Path.{◌≡◌, refl, sym, ap, ◌∙◌}
 use mathlib.Core.List.{List, [], ◌∷◌, ◌++◌}
-use mathlib.Core.Bool.{Bool, true, false, ◌&&◌}
+use mathlib.Core.Bool.{true, false}
 use mathlib.Core.Logic.{inl, inr}
 use native.Mathlib.Omega.{arith}
 use native.Mathlib.Nat.{not-suc-le-zero, le_of_suc-le-suc}
-use native.Mathlib.Decide.{dec_lt}
-use borrow.Author.Tests.{eq-eqb, ne_eqb, eqb-true}
+use borrow.Author.Tests.{eq-eqb, ne_eqb}
 use lib.Dec.{eqb}
 use lib.ListN.{length, get_or, take, length-append}
 use lib.Seq.{take-append-le, take-length}
+use Rattle.std.proofs.lemmas.Grind.{common_steps}
 use Rattle.rules.specs.Table.{at}
 use Rattle.rules.specs.Places.{nearest, holds_at, decl_named}
 use Rattle.rules.specs.Kinds.{is_decl}
-use Rattle.rules.specs.InlineGroups.{is_constraint_or_condition, after_group, constraints, own_constraints, group_fields, inlined_record, inlined_field, inlined_fields, expand}
+use Rattle.rules.specs.InlineGroups.{constraints, own_constraints, group_fields, inlined_record, inlined_field, inlined_fields, expand}
 use Rattle.rules.specs.declared.Record.{Record}
 use Rattle.rules.specs.declared.Inlined.{Inlined}
 use Rattle.rules.specs.declared.Target.TheVariants.{Decl}
@@ -24,18 +24,13 @@ use Rattle.group_sizes.specs.Members.{MemberIn, Ends, Step}
 use Rattle.group_sizes.specs.declared.members.Member.{Member}
 use Rattle.group_sizes.specs.Sizes.{size_at, fields_size, size_from, Measured}
 use Rattle.group_table.specs.Outputs.{Output, output, added, added_all, ExpandReady, Expanded}
-use Rattle.table.proofs.Laws.{at-inj, left-suc, left-none}
-use Rattle.table.proofs.Searches.{false-true}
+use Rattle.table.proofs.Laws.{left-suc, left-none}
 use Rattle.group_sizes.proofs.Known.{named_in, named-declares, group-before}
 use Rattle.group_sizes.proofs.Fields.{here-start, here-next, size-next, size-end}
 
 -- what the records from p on become
 abbrev pub fields_from : (List ℕ → ℕ → List Inlined) → List Record → List ℕ → ℕ → List Inlined
 fields_from e rs env p = inlined_fields e rs env p (length rs - p)
-
--- a sum saturates as its parts do
-pub min-sum : (a b c d : ℕ) → min 1601 a ≡ min 1601 c → min 1601 b ≡ min 1601 d → min 1601 (a + b) ≡ min 1601 (c + d)
-min-sum a b c d h g = omega arith
 
 -- ---- declarations and the places after them
 
@@ -44,15 +39,10 @@ module _ (rs : List Record) where
   here-past : (d : ℕ) → is_decl (at rs d).kind ≡ true → (e : ℕ) {x : ℕ} → nearest (holds_at rs Decl) e ≡ Some x → x < d → e ≤ d
   unfolding nearest
   here-past d h zero q l = omega arith
-  here-past d h (suc e) {x} q l = go (λ y. here-past d h e {x = y}) (is_decl (at rs e).kind) refl
+  here-past d h (suc e) {x} q l = more (λ r. here-past d h e {x = x} r l) q
     where
-      differ : is_decl (at rs e).kind ≡ false → e ≤ d → Dec (e < d) → suc e ≤ d
-      differ i y (yes z) = z
-      differ i y (no z) = let w : e ≡ d = omega arith in false-true (sym i ∙ rw w h)
-
-      go : ((y : ℕ) → nearest (holds_at rs Decl) e ≡ Some y → y < d → e ≤ d) → (b : Bool) → is_decl (at rs e).kind ≡ b → suc e ≤ d
-      go r true i = let z : e ≡ x = at-inj (rw (nearest, i) at q) in omega arith
-      go r false i = differ i (r x (rw (nearest, i) at q) l) (dec_lt e d)
+      more : (nearest (holds_at rs Decl) e ≡ Some x → e ≤ d) → nearest (holds_at rs Decl) (suc e) ≡ Some x → suc e ≤ d
+      more r q = grind (arith, common_steps)
 
   -- ---- the records of a declaration, one at a time
   fields-next : (p : ℕ) → p < length rs → is_decl (at rs p).kind ≡ false → (e : List ℕ → ℕ → List Inlined) (env : List ℕ)
@@ -72,42 +62,14 @@ unfolding added_all
 added-append o [] ys = refl
 added-append o (x ∷ xs) ys = added-append (added o x) xs ys
 
--- the constraints of a field stand behind it in its declaration, at least as many records as they are
-module _ (rs : List Record) (d : ℕ) where
-  pub record Run (p n : ℕ) : Type 0 where
-    pub end : ℕ
-    pub within : end ≤ p + n
-    pub enough : p + length (constraints rs p n) ≤ end
-    pub here : nearest (holds_at rs Decl) end ≡ Some d
-
-  constraints-run : (n p : ℕ) → nearest (holds_at rs Decl) p ≡ Some d → Run p n
-  unfolding constraints
-  constraints-run zero p h = record { end = p; within = omega arith; enough = omega arith; here = h }
-  constraints-run (suc n) p h =
-      go (λ z. constraints-run n (p + 1) (here-next rs p (not-decl 10 z refl) h)) (λ z. constraints-run n (p + 1) (here-next rs p (not-decl 11 z refl) h)) (eqb (at rs p).kind 10) refl (eqb (at rs p).kind 11) refl
-    where
-      not-decl : (k : ℕ) → (at rs p).kind ≡ k → is_decl k ≡ false → is_decl (at rs p).kind ≡ false
-      not-decl k z w = rw z w
-
-      go : ((at rs p).kind ≡ 10 → Run (p + 1) n) → ((at rs p).kind ≡ 11 → Run (p + 1) n) → (b : Bool) → eqb (at rs p).kind 10 ≡ b → (c : Bool) → eqb (at rs p).kind 11 ≡ c → Run p (suc n)
-      go r s true i c j =
-          let x = r (eqb-true _ _ i) in
-          let o : constraints rs p (suc n) ≡ p ∷ constraints rs (p + 1) n = rw (constraints, i) in
-          let w = x.within in
-          let m = x.enough in
-          let q = ap length o in
-          record { end = x.end; within = omega arith; enough = omega arith; here = x.here }
-      go r s false i true j =
-          let x = s (eqb-true _ _ j) in
-          let o : constraints rs p (suc n) ≡ constraints rs (p + 1) n = rw (constraints, i, j) in
-          let w = x.within in
-          let m = x.enough in
-          let q = ap length o in
-          record { end = x.end; within = omega arith; enough = omega arith; here = x.here }
-      go r s false i false j =
-          let o : constraints rs p (suc n) ≡ [] = rw (constraints, i, j) in
-          let q = ap length o in
-          record { end = p; within = omega arith; enough = omega arith; here = h }
+-- where places up to the end of a declaration have room beside k, so do as many as the constraints from one of its places on
+own-room : (rs : List Record) (d k n p : ℕ) → nearest (holds_at rs Decl) p ≡ Some d → ((e : ℕ) → e ≤ p + n → nearest (holds_at rs Decl) e ≡ Some d → k + e ≤ 1600) → k + p + length (constraints rs p n) ≤ 1600
+unfolding constraints
+own-room rs d k zero p h f = let r = f p (omega arith) h in omega arith
+own-room rs d k (suc n) p h f = more (f p (omega arith) h) (λ o. own-room rs d k n (p + 1) (here-next rs p o h) (λ e l. f e (omega arith)))
+  where
+    more : k + p ≤ 1600 → (is_decl (at rs p).kind ≡ false → k + (p + 1) + length (constraints rs (p + 1) n) ≤ 1600) → k + p + length (constraints rs p (suc n)) ≤ 1600
+    more b r = grind (arith, common_steps)
 
 -- ---- the sizes are those of the expansions, as far as 1,601
 
@@ -116,40 +78,24 @@ nil-of [] h = refl
 nil-of (x ∷ l) h = absurd (omega arith)
 
 module _ {rs : List Record} {targets sizes : List ℕ} (y : Measured rs targets sizes) where
-  size-saturated : (d : ℕ) → d < length rs → is_decl (at rs d).kind ≡ true → get_or sizes d 0 ≤ 1601
-  size-saturated d l i = let e = y.sized.right d l i in omega arith
-
   module _ (d : ℕ) (e : List ℕ → ℕ → List Inlined) (ok : (env : List ℕ) (g : ℕ) → g < d → g < length rs → is_decl (at rs g).kind ≡ true → min 1601 (length (e env g)) ≡ get_or sizes g 0) where
-    group-size : (env : List ℕ) (p : ℕ) → p < length rs → eqb (at rs p).kind 34 ≡ true → nearest (holds_at rs Decl) p ≡ Some d
-        → min 1601 (length (group_fields e env (decl_named rs (at rs p).second))) ≡ min 1601 (get_or sizes (get_or targets p 0) 0)
-    unfolding group_fields
-    group-size env p l i h =
-        let f = y.resolved.right p l i in
-        let b = named_in rs (at rs p).second f in
-        let j = named-declares rs (at rs p).second f in
-        let s = size-saturated (get_or targets p 0) b j in
-        rw f (ok env (get_or targets p 0) (group-before rs y.groups p l i h f) b j ∙ omega arith)
-
     field-size : (env : List ℕ) (p : ℕ) → p < length rs → nearest (holds_at rs Decl) p ≡ Some d → min 1601 (length (inlined_field e rs env p)) ≡ min 1601 (size_at targets sizes rs p)
-    unfolding inlined_field size_at
-    field-size env p l h = go (eqb (at rs p).kind 34) refl (is_constraint_or_condition (at rs p).kind && after_group rs p) refl
-      where
-        go : (b : Bool) → eqb (at rs p).kind 34 ≡ b → (c : Bool) → (is_constraint_or_condition (at rs p).kind && after_group rs p) ≡ c → min 1601 (length (inlined_field e rs env p)) ≡ min 1601 (size_at targets sizes rs p)
-        go true i c j = rw (inlined_field, size_at, i) (group-size (env ++ own_constraints rs p) p l i h)
-        go false i true j = rw (inlined_field, size_at, i, j)
-        go false i false j = rw (inlined_field, size_at, i, j)
+    unfolding inlined_field group_fields size_at
+    field-size env p l h =
+        let f = y.resolved.right p l in
+        let s : eqb (at rs p).kind 34 ≡ true → min 1601 (length (e (env ++ own_constraints rs p) (get_or targets p 0))) ≡ get_or sizes (get_or targets p 0) 0
+        = λ i. ok (env ++ own_constraints rs p) (get_or targets p 0) (group-before rs y.groups p l i h (f i)) (named_in rs (at rs p).second (f i)) (named-declares rs (at rs p).second (f i)) in
+        grind (arith, common_steps)
 
     fields-size : (env : List ℕ) (n p : ℕ) → p + n ≤ length rs → nearest (holds_at rs Decl) p ≡ Some d → min 1601 (length (inlined_fields e rs env p n)) ≡ min 1601 (fields_size targets sizes rs p n)
     unfolding inlined_fields fields_size
     fields-size env zero p l h = refl
-    fields-size env (suc n) p l h = go (λ o. fields-size env n (p + 1) (omega arith) (here-next rs p o h)) (is_decl (at rs p).kind) refl
+    fields-size env (suc n) p l h = more (field-size env p (omega arith) h) (λ o. fields-size env n (p + 1) (omega arith) (here-next rs p o h))
       where
-        go : (is_decl (at rs p).kind ≡ false → min 1601 (length (inlined_fields e rs env (p + 1) n)) ≡ min 1601 (fields_size targets sizes rs (p + 1) n))
-            → (b : Bool) → is_decl (at rs p).kind ≡ b → min 1601 (length (inlined_fields e rs env p (suc n))) ≡ min 1601 (fields_size targets sizes rs p (suc n))
-        go r true i = rw (inlined_fields, fields_size, i)
-        go r false i =
-            rw (inlined_fields, fields_size, i, length-append (inlined_field e rs env p) (inlined_fields e rs env (p + 1) n))
-            (min-sum _ _ _ _ (field-size env p (omega arith) h) (r i))
+        more : min 1601 (length (inlined_field e rs env p)) ≡ min 1601 (size_at targets sizes rs p)
+            → (is_decl (at rs p).kind ≡ false → min 1601 (length (inlined_fields e rs env (p + 1) n)) ≡ min 1601 (fields_size targets sizes rs (p + 1) n))
+            → min 1601 (length (inlined_fields e rs env p (suc n))) ≡ min 1601 (fields_size targets sizes rs p (suc n))
+        more a r = grind (arith, common_steps, length-append {A = Inlined})
 
   pub expand-size : (k : ℕ) (env : List ℕ) (d : ℕ) → d < k → d < length rs → is_decl (at rs d).kind ≡ true → min 1601 (length (expand rs k env d)) ≡ get_or sizes d 0
   unfolding expand
@@ -216,79 +162,65 @@ module _ {rs : List Record} {targets sizes : List ℕ} (k : Measured rs targets 
       is-group : eqb (at rs m.place).kind 34 ≡ true
       is-group = eq-eqb _ _ (sym h.kind ∙ k34)
 
-      g : ℕ
+      abbrev g : ℕ
       g = get_or targets m.place 0
 
       found : decl_named rs (at rs m.place).second ≡ Some g
-      unfolding g
       found = k.resolved.right m.place h.below is-group
 
-      before : g < d
-      before = group-before rs k.groups m.place h.below is-group w.here found
-
-      pub target-known : m.place < length targets
-      target-known = let l = h.below in let r = k.resolved.long in omega arith
-
-      pub group-in : get_or targets m.place 0 < length sizes
-      unfolding g
-      group-in = let n = named_in rs (at rs m.place).second found in let l = k.sized.long in omega arith
+      in-table : (g < d) × (g < length rs) × (is_decl (at rs g).kind ≡ true)
+      in-table = (group-before rs k.groups m.place h.below is-group w.here found, named_in rs (at rs m.place).second found, named-declares rs (at rs m.place).second found)
 
       size-found : size_at targets sizes rs m.place ≡ get_or sizes g 0
-      unfolding size_at g
+      unfolding size_at
       size-found = rw (size_at, is-group)
 
       field-group : (e : List ℕ → ℕ → List Inlined) (v : List ℕ) → inlined_field e rs v m.place ≡ e (v ++ own_constraints rs m.place) g
       unfolding inlined_field group_fields
       field-group e v = rw (inlined_field, is-group, found)
 
-      own-fits : length env + length (own_constraints rs m.place) + (m.place + 1) ≤ 1600
-      own-fits =
-          let r = constraints-run rs d (length rs - (m.place + 1)) (m.place + 1) (here-next rs m.place h.inside w.here) in
+      pub call-push : (length rs ≤ 1600) × (length env + length (own_constraints rs m.place) + (m.place + 1) ≤ 1600)
+      call-push =
           let l = h.below in
-          let i = r.within in
-          let j = r.enough in
-          let x = y.spare r.end (omega arith) r.here in
           let e = ap length w.kept in
-          omega arith
-
-      pub call-push : (length rs ≤ 1600) × (length env + length (own_constraints rs m.place) ≤ 1600)
-      call-push = let f = own-fits in (k.few, omega arith)
+          let r = own-room rs d (length env) (length rs - (m.place + 1)) (m.place + 1) (here-next rs m.place h.inside w.here) (λ x i z. let v = y.spare x (omega arith) z in omega arith) in
+          (k.few, omega arith)
 
       -- it has no fields
       pub turn-empty : get_or sizes (get_or targets m.place 0) 0 ≡ 0 → Walking rs targets sizes d env₀ out₀ a env out s (m.place + 1)
-      unfolding added_all g
+      unfolding added_all
       turn-empty z =
           let q = size-found in
-          let v = before in
-          let none : (n : ℕ) → d ≤ n → inlined_field (expand rs n) rs env₀ m.place ≡ [] =
-          λ n i. field-group (expand rs n) env₀ ∙ expand-none k n (env₀ ++ own_constraints rs m.place) g (omega arith) (named_in rs (at rs m.place).second found) (named-declares rs (at rs m.place).second found) z in
-          walk-next (λ n i. sym (rw (none n i))) (omega arith) refl refl
+          let v = in-table in
+          walk-next (λ n i. sym (rw (field-group (expand rs n) env₀, expand-none k n (env₀ ++ own_constraints rs m.place) g (omega arith) v.1 v.2 z))) (omega arith) refl refl
 
       -- its fields are written
       module _ {env₁ : List ℕ} (pm : env₁ ≡ env ++ own_constraints rs m.place) where
         pub call-expand : {x : ℕ} → d ≡ x → (get_or targets m.place 0 < x) × ExpandReady rs sizes (get_or targets m.place 0) env₁ out s
-        unfolding g
-        call-expand e = (
-          (let f = before in omega arith),
-          record {
-            decl = (named_in rs (at rs m.place).second found, named-declares rs (at rs m.place).second found);
-            spare = λ x i f. (let j = here-past rs d y.decl.1 x f before in let q = simp length-append at (ap length pm) in let r = own-fits in let v = w.past in omega arith);
-            room = (let f = size-left in let q = size-found in let r = y.room in omega arith);
-            wide = (let f = size-left in let q = size-found in let e = w.out-long in let v = y.wide in omega arith);
-          },
-        )
+        call-expand e =
+            let t = in-table in
+            let q = size-found in
+            let f = size-left in
+            let v = w.past in
+            let l = w.out-long in
+            let n = simp length-append at (ap length pm) in
+            let c = call-push in (
+              omega arith,
+              record {
+                decl = (t.1, t.2);
+                spare = λ x i z. (let j = here-past rs d y.decl.1 x z t.0 in omega arith);
+                room = (let r = y.room in omega arith);
+                wide = (let r = y.wide in omega arith);
+              },
+            )
 
         pub turn-group : {env₂ env₃ : List ℕ} {out₂ : List Record} {s₂ : ExpandProgress} → Expanded rs sizes (get_or targets m.place 0) env₁ out s env₂ out₂ s₂ → env₃ ≡ take (length env) env₂ → length out₂ ≡ length out
             → Walking rs targets sizes d env₀ out₀ a env₃ out₂ s₂ (m.place + 1)
-        unfolding g
-        turn-group {env₂} {env₃} {out₂} {s₂} x e f =
+        turn-group x e f =
             let q = size-found in
             let c = x.counted in
-            walk-next
-            (λ n i. let v = before in x.made n (omega arith) ∙ rw (field-group (expand rs n) env₀, pm, w.kept))
-            (omega arith)
-            (e ∙ rw (x.kept, pm, take-append-le (length env) env (own_constraints rs m.place) (omega arith)) (take-length env))
-            f
+            walk-next (λ n i. let v = in-table in x.made n (omega arith) ∙ rw (field-group (expand rs n) env₀, pm, w.kept)) (omega arith)
+            (e ∙ rw (x.kept, pm, take-append-le (length env) env (own_constraints rs m.place) (omega arith)) (take-length env)) f
 
     -- ---- any other record
     module _ (k34 : ¬ (m.kind ≡ 34)) where
@@ -300,8 +232,7 @@ module _ {rs : List Record} {targets sizes : List ℕ} (k : Measured rs targets 
       unfolding inlined_field size_at added_all
       turn-lost f =
           let b = sym h.bound ∙ f in
-          let z : size_at targets sizes rs m.place ≡ 0 = rw (size_at, no-group, b) in
-          walk-next (λ n i. rw (inlined_field, no-group, b)) (omega arith) refl refl
+          walk-next (λ n i. rw (inlined_field, no-group, b)) (rw (size_at, no-group, b) (omega arith)) refl refl
 
       module _ (f : m.bound ≡ false) where
         size-one : size_at targets sizes rs m.place ≡ 1
@@ -315,10 +246,9 @@ module _ {rs : List Record} {targets sizes : List ℕ} (k : Measured rs targets 
         pub turn_one : {out₂ : List Record} {s₂ : ExpandProgress} → output s₂ out₂ ≡ added (output s out) (inlined_record rs env (at rs m.place)) → length out₂ ≡ length out
             → Walking rs targets sizes d env₀ out₀ a env out₂ s₂ (m.place + 1)
         unfolding inlined_field added_all added
-        turn_one {out₂} {s₂} x e =
+        turn_one x e =
             let q = size-one in
-            let c : s₂.count ≡ s.count + 1 = ap (λ (u : Output). u.progress.count) x in
-            walk-next (λ n i. x ∙ rw (inlined_field, no-group, sym h.bound ∙ f, w.kept)) (omega arith) refl e
+            walk-next (λ n i. x ∙ rw (inlined_field, no-group, sym h.bound ∙ f, w.kept)) (ap (λ (u : Output). u.progress.count) x ∙ omega arith) refl e
 
 -- ---- a step of the loop, from place p to place q
 

@@ -14,7 +14,7 @@ use Rattle.group_table.specs.declared.ExpandProgress.{ExpandProgress}
 use Rattle.group_sizes.specs.Sizes.{total_size, Measured}
 use Rattle.group_table.specs.Outputs.{Output, output, added, added_all, empty, ExpandReady, Expanded}
 use Rattle.group_table.proofs.Expands.{added-append}
-use Rattle.group_sizes.proofs.Measures.{total-next, total-other}
+use Rattle.group_sizes.proofs.Measures.{total-next}
 use Rattle.group_table.proofs.Totals.{total-rises, kept-decl}
 
 pub record Writing (rs : List Record) (sizes : List ℕ) (out₀ : List Record) (env : List ℕ) (out : List Record) (s : ExpandProgress) (d : ℕ) : Type 0 where
@@ -34,14 +34,14 @@ module _ {rs : List Record} {targets sizes : List ℕ} (y : Measured rs targets 
     write-other i =
         record {
           made = w.made ∙ rw (each_more (inlined_at rs) d, inlined_at, i, append-nil (each (inlined_at rs) d));
-          counted = w.counted ∙ sym (total-other sizes rs d i);
+          counted = w.counted ∙ sym (total-next sizes rs d ∙ rw i (omega arith));
           bare = w.bare;
           out-long = w.out-long;
         }
 
     module _ (i : is_kept (at rs d).kind ≡ true) where
       left : s.count + (1 + get_or sizes d 0) ≤ total_size sizes rs (length rs)
-      left = let a = total-next sizes rs d i in let b = total-rises sizes rs (d + 1) (length rs) (omega arith) in let c = w.counted in omega arith
+      left = let a = rw i at (total-next sizes rs d) in let b = total-rises sizes rs (d + 1) (length rs) (omega arith) in let c = w.counted in omega arith
 
       pub call-first : s.count < length out
       call-first = let a = left in let b = w.out-long in omega arith
@@ -67,7 +67,7 @@ module _ {rs : List Record} {targets sizes : List ℕ} (y : Measured rs targets 
             let a = x.counted in
             let b = one_more in
             let c = w.counted in
-            let t = total-next sizes rs d i in
+            let t = rw i at (total-next sizes rs d) in
             record {
               made =
                   x.made (length rs) l

@@ -3,12 +3,11 @@ use Rattle.std.proofs.Common.{Option, None, Some, Result, Err}
 use Prim.Native.Nat.{ℕ, suc, ◌+◌, ◌<◌, ◌≤◌}
 use mathlib.Core.Path.{◌≡◌, refl, sym, ap, ◌∙◌}
 use mathlib.Core.List.{List, [], ◌∷◌, ◌++◌, map, append-nil, append_assoc}
-use mathlib.Core.Bool.{Bool, true, false}
 use native.Mathlib.Omega.{arith}
 use native.Mathlib.Nat.{zero-add, add-zero}
-use borrow.Author.Tests.{lt-ltb, le-ltb}
 use lib.ListN.{length, get_or, take, drop, set, length-set, take-append-drop}
 use lib.Seq.{take-suc-set, drop-set-lt}
+use Rattle.std.proofs.lemmas.Grind.{common_steps}
 use Rattle.rules.specs.Table.{blank, field_key}
 use Rattle.rules.specs.Places.{first}
 use Rattle.rules.specs.InlineGroups.{kept, inlined, record_of, unfit_at, first_unfit}
@@ -58,14 +57,11 @@ unfit-from : (ys : List Inlined) (n p : ℕ) (xs : List Inlined) → ((i : ℕ) 
     → by_fit n (unfit_of None xs) ≡ inlined_or_unfit ys (first (unfit_at ys) p (length xs))
 unfolding unfit_of unfit_after by_fit inlined_or_unfit first
 unfit-from ys n p [] h e = rw e
-unfit-from ys n p (x ∷ xs) h e = go x.fit refl (unfit-from ys n (p + 1) xs (λ i. ap (λ (j : ℕ). get_or ys j (kept blank)) (omega arith) ∙ h (suc i)) e)
+unfit-from ys n p (x ∷ xs) h e = more (unfit-from ys n (p + 1) xs (λ i. ap (λ (j : ℕ). get_or ys j (kept blank)) (omega arith) ∙ h (suc i)) e) (unfit-stays (field_key x.made) xs) (ap (λ (j : ℕ). get_or ys j (kept blank)) (sym (add-zero p)) ∙ h 0)
   where
-    here : get_or ys p (kept blank) ≡ x
-    here = ap (λ (j : ℕ). get_or ys j (kept blank)) (sym (add-zero p)) ∙ h 0
-
-    go : (b : Bool) → x.fit ≡ b → by_fit n (unfit_of None xs) ≡ inlined_or_unfit ys (first (unfit_at ys) (p + 1) (length xs)) → by_fit n (unfit_of (unfit_after None x) xs) ≡ inlined_or_unfit ys (first (unfit_at ys) p (suc (length xs)))
-    go true i r = let u : unfit_at ys p ≡ false = rw (here, i) in rw (unfit_after, i, first, u) r
-    go false i r = let u : unfit_at ys p ≡ true = rw (here, i) in rw (unfit_after, i, first, u, unfit-stays (field_key x.made) xs, here)
+    more : by_fit n (unfit_of None xs) ≡ inlined_or_unfit ys (first (unfit_at ys) (p + 1) (length xs)) → unfit_of (Some (field_key x.made)) xs ≡ Some (field_key x.made) → get_or ys p (kept blank) ≡ x
+        → by_fit n (unfit_of None (x ∷ xs)) ≡ inlined_or_unfit ys (first (unfit_at ys) p (suc (length xs)))
+    more r u w = grind (arith, common_steps)
 
 first-unfit : (xs : List Inlined) → by_fit (length xs) (unfit_of None xs) ≡ inlined_or_unfit xs (first_unfit xs)
 unfolding first_unfit
@@ -73,40 +69,23 @@ first-unfit xs = unfit-from xs (length xs) 0 xs (λ i. ap (λ (j : ℕ). get_or 
 
 -- ---- the answer
 
-module _ {rs : List Record} {targets sizes : List ℕ} (y : Measured rs targets sizes) where
-  module _ (h : 1600 < total_size sizes rs (length rs)) (b : List Record) where
-    swollen : 1600 < length (inlined rs)
-    swollen = let e = inlined-size y in omega arith
+module _ {rs : List Record} {targets sizes : List ℕ} (y : Measured rs targets sizes) (out₀ : List Record) where
+  pub ret-swollen : 1600 < total_size sizes rs (length rs) → (Err Swollen ≡ inlining (length out₀) (inlined rs)) × (out₀ ≡ inlining_records out₀ (inlined rs))
+  unfolding inlining inlining_records
+  ret-swollen h = let e = inlined-size y in (grind (arith, common_steps), grind (arith, common_steps))
 
-    pub ret-swollen : (Err Swollen ≡ inlining (length b) (inlined rs)) × (b ≡ inlining_records b (inlined rs))
+  module _ (h : total_size sizes rs (length rs) ≤ 1600) where
+    pub ret-buffer-short : length out₀ < total_size sizes rs (length rs) → (Err BufferShort ≡ inlining (length out₀) (inlined rs)) × (out₀ ≡ inlining_records out₀ (inlined rs))
     unfolding inlining inlining_records
-    ret-swollen = (rw (lt-ltb _ _ swollen), rw (lt-ltb _ _ swollen))
+    ret-buffer-short l = let e = inlined-size y in (grind (arith, common_steps), grind (arith, common_steps))
 
-  module _ (h : total_size sizes rs (length rs) ≤ 1600) (out₀ : List Record) where
-    size : length (inlined rs) ≡ total_size sizes rs (length rs)
-    size = let e = inlined-size y in omega arith
-
-    few : length (inlined rs) ≤ 1600
-    few = let e = size in omega arith
-
-    pub ret-buffer-short : length out₀ < total_size sizes rs (length rs)
-        → (Err BufferShort ≡ inlining (length out₀) (inlined rs)) × (out₀ ≡ inlining_records out₀ (inlined rs))
+    pub ret-fits : total_size sizes rs (length rs) ≤ length out₀ → {out : List Record} {s : ExpandProgress} {r : Result ℕ InlineError} → output s out ≡ added_all (output empty out₀) (inlined rs) → r ≡ by_fit s.count s.unfit
+        → (r ≡ inlining (length out₀) (inlined rs)) × (out ≡ inlining_records out₀ (inlined rs))
     unfolding inlining inlining_records
-    ret-buffer-short l =
-        let e = size in
-        let m : length out₀ < length (inlined rs) = omega arith in
-        (rw (le-ltb _ _ few, lt-ltb _ _ m), rw (le-ltb _ _ few, lt-ltb _ _ m))
-
-    module _ (l : total_size sizes rs (length rs) ≤ length out₀) {out : List Record} {s : ExpandProgress} (p : output s out ≡ added_all (output empty out₀) (inlined rs)) where
-      fits : length (inlined rs) ≤ length out₀
-      fits = let e = size in omega arith
-
-      whole : output s out ≡ output (record { count = length (inlined rs); unfit = unfit_of None (inlined rs) }) (map record_of (inlined rs) ++ drop (length (inlined rs)) out₀)
-      whole = let f = fits in p ∙ added-records (inlined rs) 0 None out₀ (omega arith) ∙ rw (zero-add (length (inlined rs)))
-
-      pub ret-fits : {r : Result ℕ InlineError} → r ≡ by_fit s.count s.unfit → (r ≡ inlining (length out₀) (inlined rs)) × (out ≡ inlining_records out₀ (inlined rs))
-      unfolding inlining inlining_records
-      ret-fits e = (
-        e ∙ ap (λ (u : Output). by_fit u.progress.count u.progress.unfit) whole ∙ first-unfit (inlined rs) ∙ rw (le-ltb _ _ few, le-ltb _ _ fits),
-        ap (λ (u : Output). u.records) whole ∙ rw (le-ltb _ _ few, le-ltb _ _ fits),
-      )
+    ret-fits l {out} {s} {r} p e =
+        let n = inlined-size y in
+        let whole : output s out ≡ output (record { count = length (inlined rs); unfit = unfit_of None (inlined rs) }) (map record_of (inlined rs) ++ drop (length (inlined rs)) out₀)
+        = p ∙ added-records (inlined rs) 0 None out₀ (omega arith) ∙ rw (zero-add (length (inlined rs))) in
+        let a : r ≡ inlined_or_unfit (inlined rs) (first_unfit (inlined rs)) = e ∙ ap (λ (u : Output). by_fit u.progress.count u.progress.unfit) whole ∙ first-unfit (inlined rs) in
+        let b = ap (λ (u : Output). u.records) whole in
+        (grind (arith, common_steps), grind (arith, common_steps))

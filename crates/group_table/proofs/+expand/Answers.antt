@@ -1,5 +1,5 @@
 -- `group_table::expand` meets its contract. The laws are in Expands. Assumes nothing.
-use Rattle.std.proofs.Common.{refl}
+use Rattle.std.proofs.Common.{arith, refl}
 use Rattle.group_table.proofs.Expands.{walk_start, walk_end, step_in, step_out, call-push, turn-empty, call-expand, turn-group, turn-lost, call-add, turn_one}
 use Rattle.group_table.proofs.+expand.Goals as goal
 
@@ -11,7 +11,8 @@ loop-place-init t c =
 pub push_constraints-requires : goal.push_constraints-requires
 push_constraints-requires t c =
     let w = step_in c.in-Some.ensures.steps c.loop-place.invariant in
-    call-push c.args.groups.now.measured c.requires w.0 w.1 c.if-kind-eq-GROUP_FIELD.true
+    let p = call-push c.args.groups.now.measured c.requires w.0 w.1 c.if-kind-eq-GROUP_FIELD.true in
+    (p.0, omega arith)
 
 pub expand-s-requires : goal.expand-s-requires
 expand-s-requires t c =

@@ -4,14 +4,14 @@ use Rattle.inline_groups.proofs.inline_with.Goals as goal
 
 pub returns-then-n-gt-MOST_RECORDS : goal.returns-then-n-gt-MOST_RECORDS
 returns-then-n-gt-MOST_RECORDS c =
-    ret-swollen c.args.groups.now.measured (rw c.total-n.ensures at c.if-n-gt-MOST_RECORDS.true) c.args.out.now
+    ret-swollen c.args.groups.now.measured c.args.out.now (rw c.total-n.ensures at c.if-n-gt-MOST_RECORDS.true)
 
 pub returns-then-out-n : goal.returns-then-out-n
 returns-then-out-n c =
     let e = c.total-n.ensures in
-    ret-buffer-short c.args.groups.now.measured (rw e at c.if-n-gt-MOST_RECORDS.false) c.args.out.now (rw e at c.if-out-n.true)
+    ret-buffer-short c.args.groups.now.measured c.args.out.now (rw e at c.if-n-gt-MOST_RECORDS.false) (rw e at c.if-out-n.true)
 
 pub returns : goal.returns
 returns c =
     let e = c.total-n.ensures in
-    ret-fits c.args.groups.now.measured (rw e at c.if-n-gt-MOST_RECORDS.false) c.args.out.now (rw e at c.if-out-n.false) c.write_all.ensures c.by_fit.ensures
+    ret-fits c.args.groups.now.measured c.args.out.now (rw e at c.if-n-gt-MOST_RECORDS.false) (rw e at c.if-out-n.false) c.write_all.ensures c.by_fit.ensures
