@@ -5,7 +5,7 @@
 ghost use Rattle.std.specs.Prelude.{◌≡◌, ℕ, ◌<◌, length};
 
 use rules::Record;
-use rules::limits::{FAULT_LENGTH, MOST_RECORDS, TABLE_LENGTH};
+use rules::limits::{FAULT_LENGTH, MOST_RECORDS};
 use std::io::Print;
 
 // The last place of the longest table, and the name of the declaration there.
@@ -47,11 +47,11 @@ fn holder(place: usize) -> Record
 }
 
 // Fills the longest table with what `f` gives for each place.
-fn fill<F: Fn(usize) -> Record>(table: &mut [u8], f: F)
-    requires { (length table.old ≡ 64000) × ((p : ℕ) → p < 1600 → F.pre f p) }
+fn fill<F: Fn(usize) -> Record>(table: &mut [Record], f: F)
+    requires { (length table.old ≡ 1600) × ((p : ℕ) → p < 1600 → F.pre f p) }
 {
-    for p in 0..MOST_RECORDS {
-        store::put(table, p, f(p));
+    for (place, record) in table.iter_mut().enumerate() {
+        *record = f(place);
     }
 }
 
@@ -61,8 +61,8 @@ fn line<R: Print>(rt: &R, number: u64) {
 }
 
 // Orders the table and prints what came of it.
-fn show<R: Print>(rt: &R, table: &[u8], buffer: &mut [u8], out: &mut [u8])
-    requires { (length table.now ≡ 64000) × (length out.old ≡ 64000) }
+fn show<R: Print>(rt: &R, table: &[Record], buffer: &mut [u8], out: &mut [Record])
+    requires { (length table.now ≡ 1600) × (length out.old ≡ 1600) }
 {
     let (listed, found) = match decl_order::check_decl_identifiers(table, buffer, out) {
         Ok(records) => (records, 0),
@@ -70,12 +70,12 @@ fn show<R: Print>(rt: &R, table: &[u8], buffer: &mut [u8], out: &mut [u8])
     };
     line(rt, listed as u64);
     line(rt, found as u64);
-    line(rt, table::name(out, 0) as u64);
+    line(rt, u64::from(out[0].name));
 }
 
 fn main(rt: HostRuntime) {
-    let mut table = [0u8; TABLE_LENGTH];
-    let mut out = [0u8; TABLE_LENGTH];
+    let mut table = [Record::default(); MOST_RECORDS];
+    let mut out = [Record::default(); MOST_RECORDS];
     let mut buffer = [0u8; 10 * FAULT_LENGTH];
     // 1,600 structs, each the child of the next.
     fill(&mut table, child);

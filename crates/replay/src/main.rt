@@ -1,8 +1,12 @@
 // Replays stored tables through parts of the analyzer: a line for each case says what the part answered.
 #![tactic(auto)]
 
-use rules::limits::{FAULT_LENGTH, MOST_RECORDS, RECORD_LENGTH, TABLE_LENGTH};
-use rules::{LayoutError, Reply, Tally};
+ghost use Rattle.std.specs.Prelude.{◌*◌, ◌≤◌, IfOk, IfSome, length};
+
+use replay_cases::Case;
+use replay_cases::part::Part;
+use rules::limits::{FAULT_LENGTH, MOST_RECORDS, TABLE_LENGTH};
+use rules::{LayoutError, Record, Reply, Tally};
 use std::io::{Input, Print, Read};
 
 // The row of the layout's reply, 0 for a sound layout, and the place.
@@ -27,35 +31,64 @@ fn print_faults<R: Print>(rt: &R, tally: Tally, faults: &[u8], end: u8) {
 
 fn print_scope<R: Print>(rt: &R, input: &[u8], faults: &mut [u8]) {
     replay_cases::fill(faults);
-    let tally = pass_checks::scope_new(input, faults);
+    if MOST_RECORDS < records::count(input) {
+        return;
+    }
+    let mut table = [Record::default(); MOST_RECORDS];
+    let n = records::read(input, &mut table);
+    let tally = pass_checks::scope_new(&table[..n], faults);
     print_faults(rt, tally, faults, b'\n');
 }
 
-// The faults, the number of listed records and the digest of the buffer that holds them.
-fn print_order<R: Print>(rt: &R, input: &[u8], faults: &mut [u8], out: &mut [u8]) {
+// Pass 2 on a fault buffer filled with 7: its faults, or how many records it lists. None for an input of too many records.
+fn order(input: &[u8], faults: &mut [u8], listed: &mut [Record]) -> Option<Result<usize, Tally>>
+    requires { 1600 ≤ length listed.old }
+    ensures { IfSome result (λ r. IfOk r (λ n. n ≤ 1600)) }
+{
     replay_cases::fill(faults);
-    replay_cases::fill(out);
-    if MOST_RECORDS < table::count(input) || out.len() < TABLE_LENGTH {
+    if MOST_RECORDS < records::count(input) {
+        return None;
+    }
+    let mut table = [Record::default(); MOST_RECORDS];
+    let n = records::read(input, &mut table);
+    Some(decl_order::check_decl_identifiers(&table[..n], faults, listed))
+}
+
+// Writes records to the start of a buffer.
+fn write(out: &mut [u8], records: &[Record])
+    requires { 40 * length records.now ≤ length out.old }
+{
+    for (place, record) in records.iter().enumerate() {
+        store::put(out, place, *record);
+    }
+}
+
+// The faults, the number of listed records and the digest of a buffer that they are written to.
+fn print_order<R: Print>(rt: &R, input: &[u8], faults: &mut [u8], out: &mut [u8]) {
+    if out.len() < TABLE_LENGTH {
         return;
     }
-    let (records, tally) = match decl_order::check_decl_identifiers(input, faults, out) {
-        Ok(records) => (records, faults::no_faults()),
-        Err(tally) => (0, tally),
+    let mut listed = [Record::default(); MOST_RECORDS];
+    let (count, tally) = match order(input, faults, &mut listed) {
+        None => return,
+        Some(Ok(count)) => (count, faults::no_faults()),
+        Some(Err(tally)) => (0, tally),
     };
+    replay_cases::fill(out);
+    write(out, &listed[..count]);
     print_faults(rt, tally, faults, b' ');
-    replay_cases::print(rt, records as u64, b' ');
+    replay_cases::print(rt, count as u64, b' ');
     replay_cases::print(rt, replay_cases::digest(out), b'\n');
 }
 
 // The lowest of passes 3 to 9 that finds faults, or 0, and its faults.
-fn print_later<R: Print>(rt: &R, listed: &[u8], faults: &mut [u8]) {
-    if MOST_RECORDS < table::count(listed) {
-        return;
-    }
+fn print_later<R: Print>(rt: &R, listed: &[Record], faults: &mut [u8])
+    requires { length listed.now ≤ 1600 }
+{
     match pass_checks::run_later(listed, faults) {
         Err(faulty) => {
             let total = faulty.total;
-            replay_cases::print(rt, faulty.pass as u64, b' ');
+            replay_cases::print(rt, u64::from(faulty.pass), b' ');
             let tally = Tally {
                 kept: total.min(faults.len() / FAULT_LENGTH),
                 total,
@@ -69,18 +102,12 @@ fn print_later<R: Print>(rt: &R, listed: &[u8], faults: &mut [u8]) {
     }
 }
 
-// Passes 3 to 9 on the table that pass 2 lists.
-fn print_checks<R: Print>(rt: &R, input: &[u8], faults: &mut [u8], out: &mut [u8]) {
-    replay_cases::fill(faults);
-    if MOST_RECORDS < table::count(input) || out.len() < TABLE_LENGTH {
-        return;
+// Passes 3 to 9 on the table that pass 2 lists: one of no records where it finds faults.
+fn print_checks<R: Print>(rt: &R, input: &[u8], faults: &mut [u8]) {
+    let mut listed = [Record::default(); MOST_RECORDS];
+    if let Some(checked) = order(input, faults, &mut listed) {
+        print_later(rt, &listed[..checked.unwrap_or(0)], faults);
     }
-    let n = decl_order::check_decl_identifiers(input, faults, out).unwrap_or(0);
-    if MOST_RECORDS < n {
-        return;
-    }
-    let end = RECORD_LENGTH * n;
-    print_later(rt, &out[..end], faults);
 }
 
 // The row of the reply and its values.
@@ -90,12 +117,12 @@ fn print_reply<R: Print>(rt: &R, reply: Reply) {
         Reply::TooLong => replay_cases::print(rt, 2, b' '),
         Reply::Malformed(place) => print_row(rt, 3, place as u64),
         Reply::Faulty(pass, total) => {
-            print_row(rt, 4, pass as u64);
+            print_row(rt, 4, u64::from(pass));
             replay_cases::print(rt, total as u64, b' ');
         }
         Reply::Swollen => replay_cases::print(rt, 5, b' '),
-        Reply::Unfit(key) => print_row(rt, 6, key.0 as u64),
-        Reply::Loose(key) => print_row(rt, 7, key.0 as u64),
+        Reply::Unfit(key) => print_row(rt, 6, u64::from(key.0)),
+        Reply::Loose(key) => print_row(rt, 7, u64::from(key.0)),
         Reply::Overlisted => replay_cases::print(rt, 8, b' '),
         Reply::NoRoom(needed) => print_row(rt, 9, needed as u64),
         Reply::Accepted(records) => print_row(rt, 10, records as u64),
@@ -116,13 +143,16 @@ fn print_whole<R: Print>(rt: &R, input: &[u8], table: &mut [u8], faults: &mut [u
     replay_cases::print(rt, replay_cases::digest(faults), b'\n');
 }
 
-fn print_part<R: Print>(rt: &R, part: u32, input: &[u8], faults: &mut [u8], out: &mut [u8]) {
-    match part {
-        1 => print_layout(rt, layout::check_layout(input)),
-        2 => print_scope(rt, input, faults),
-        3 => print_order(rt, input, faults, out),
-        4 => print_checks(rt, input, faults, out),
-        _ => replay_cases::print(rt, 0, b'?'),
+// A line for a case, with a fault buffer of its length.
+fn print_case<R: Print>(rt: &R, case: Case, input: &[u8], faults: &mut [u8], out: &mut [u8])
+    requires { case.table ≤ length out.old }
+{
+    match case.part {
+        Part::Layout => print_layout(rt, layout::check_layout(input)),
+        Part::Scope => print_scope(rt, input, faults),
+        Part::Order => print_order(rt, input, faults, out),
+        Part::Checks => print_checks(rt, input, faults),
+        Part::Whole => print_whole(rt, input, &mut out[..case.table], faults),
     }
 }
 
@@ -140,13 +170,13 @@ fn one_case<R: Print, S: Read>(
     if faults.len() < case.faults || out.len() < case.table {
         return false;
     }
-    let input = &input[..case.input];
-    let faults = &mut faults[..case.faults];
-    if case.part == 5 {
-        print_whole(rt, input, &mut out[..case.table], faults);
-    } else {
-        print_part(rt, case.part, input, faults, out);
-    }
+    print_case(
+        rt,
+        case,
+        &input[..case.input],
+        &mut faults[..case.faults],
+        out,
+    );
     true
 }
 

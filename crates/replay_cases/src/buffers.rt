@@ -1,4 +1,4 @@
-// The buffers that stored cases are replayed with.
+// The buffers that stored cases are replayed with: a function for each, which promises the length that its buffer is for.
 ghost use Rattle.std.specs.Prelude.{◌≡◌, length};
 
 use rules::limits::{RECORD_LENGTH, TABLE_LENGTH};
