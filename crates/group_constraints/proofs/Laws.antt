@@ -1,78 +1,38 @@
 -- Constraints a step at a time: the stack, and what the constraint that holds makes of a record. Assumes nothing.
 use Rattle.std.proofs.Common.{ℕ}
-use Prim.Native.Nat.{ℕ, suc, zero, ◌+◌, ◌-◌, ◌<◌, ◌≤◌}
-use mathlib.Core.Path.{◌≡◌, refl, sym, ap, ◌∙◌}
-use mathlib.Core.List.{List, [], ◌∷◌, ◌++◌, append_assoc, append-nil}
+use Prim.Native.Nat.{ℕ, suc, zero, ◌+◌, ◌<◌, ◌≤◌}
+use mathlib.Core.Path.{◌≡◌, refl}
+use mathlib.Core.List.{List, [], ◌∷◌, ◌++◌, append_assoc}
 use native.Mathlib.Omega.{arith}
 use native.Mathlib.Numerals.{add-one}
 use lib.ListN.{length, take, set}
-use Rattle.std.proofs.Common.{find, reverse, get_or, Bool, MatchOption}
+use Rattle.std.proofs.Common.{find, reverse, get_or, Bool}
 use Rattle.std.proofs.lemmas.List.{reverse-append}
 use Rattle.std.proofs.lemmas.Grind.{common_steps}
 use Rattle.rules.specs.Table.{at}
 use Rattle.rules.specs.Places.{nearest}
 use lib.Dec.{eqb}
+use Rattle.std.specs.Prelude.{if◌then◌else◌}
 use lib.Seq.{take-suc, take-suc-set, take-length}
-use Rattle.rules.specs.InlineGroups.{entry_at, kept, fixed_scalar, fixed_enum, lookup, under, inlined_record, constraints}
+use Rattle.rules.specs.InlineGroups.{entry_at, lookup, constraints}
 use Rattle.rules.specs.declared.Record.{Record}
-use Rattle.rules.specs.declared.Inlined.{Inlined}
 use Rattle.table.proofs.Laws.{left-suc, left-none}
 use Rattle.group_constraints.specs.Constraints.{constraints_from}
 
 -- ---- the constraints of a field
 
-module _ (rs : List Record) (n p : ℕ) where
-  pub more-constraint : p < n → (at rs p).kind ≡ 10 → constraints rs p (n - p) ≡ p ∷ constraints rs (p + 1) (n - (p + 1))
-  unfolding constraints
-  more-constraint h e = rw (left-suc n p h) (grind (arith, common_steps))
+pub constraints-next : (rs : List Record) (p : ℕ) → p < length rs
+    → constraints_from rs p ≡ (if eqb (at rs p).kind 10 then p ∷ constraints_from rs (p + 1) else if eqb (at rs p).kind 11 then constraints_from rs (p + 1) else [])
+unfolding constraints
+constraints-next rs p h = rw (left-suc (length rs) p h, constraints)
 
-  pub more-condition : p < n → (at rs p).kind ≡ 11 → constraints rs p (n - p) ≡ constraints rs (p + 1) (n - (p + 1))
-  unfolding constraints
-  more-condition h e = rw (left-suc n p h) (grind (arith, common_steps))
+pub constraints-end : (rs : List Record) (p : ℕ) → length rs ≤ p → constraints_from rs p ≡ []
+unfolding constraints
+constraints-end rs p h = rw (left-none (length rs) p h)
 
-  pub more-other : p < n → ¬ ((at rs p).kind ≡ 10) → ¬ ((at rs p).kind ≡ 11) → constraints rs p (n - p) ≡ []
-  unfolding constraints
-  more-other h e f = rw (left-suc n p h) (grind (arith, common_steps))
-
-  pub more-end : n ≤ p → constraints rs p (n - p) ≡ []
-  unfolding constraints
-  more-end h = rw (left-none n p h)
-
--- ---- the first m places of the buffer at place i, and the constraints that are still to come
-
-pub record Pushing (rs : List Record) (env₀ : List ℕ) (n p : ℕ) (env : List ℕ) (m i : ℕ) : Type 0 where
-  pub so_far : take n env₀ ++ constraints_from rs p ≡ take m env ++ constraints_from rs i
-  pub count : n + length (constraints_from rs p) ≡ m + length (constraints_from rs i)
-
-module _ {rs : List Record} {env₀ : List ℕ} {n p : ℕ} {env : List ℕ} {m i : ℕ} (h : Pushing rs env₀ n p env m i) where
-  module _ (l : i < length rs) where
-    pub push-fits : {k : ℕ} → (at rs i).kind ≡ 10 → n + length (constraints_from rs p) ≤ k → m < k
-    push-fits e f = omega (arith, h.count, ap length (more-constraint rs (length rs) i l e))
-
-    pub push-one : (at rs i).kind ≡ 10 → m < length env → Pushing rs env₀ n p (set env m i) (m + 1) (i + 1)
-    push-one e f =
-        let c = h.count in
-        let o = ap length (more-constraint rs (length rs) i l e) in
-        record {
-          so_far = h.so_far ∙ rw (more-constraint rs (length rs) i l e, add-one m, take-suc-set env m i f, append_assoc (take m env) (i ∷ []) (constraints_from rs (i + 1)));
-          count = omega arith;
-        }
-
-    pub push-none : (at rs i).kind ≡ 11 → Pushing rs env₀ n p env m (i + 1)
-    push-none e =
-        record {
-          so_far = h.so_far ∙ rw (more-condition rs (length rs) i l e);
-          count = h.count ∙ rw (more-condition rs (length rs) i l e);
-        }
-
-  pushed : constraints_from rs i ≡ [] → (m ≡ n + length (constraints_from rs p)) × (take m env ≡ take n env₀ ++ constraints_from rs p)
-  pushed e = (omega (arith, h.count, ap length e), sym (h.so_far ∙ rw (e, append-nil (take m env))))
-
-  pub push-stop : i < length rs → ¬ ((at rs i).kind ≡ 10) → ¬ ((at rs i).kind ≡ 11) → (m ≡ n + length (constraints_from rs p)) × (take m env ≡ take n env₀ ++ constraints_from rs p)
-  push-stop l e f = pushed (more-other rs (length rs) i l e f)
-
-  pub push-end : length rs ≤ i → (m ≡ n + length (constraints_from rs p)) × (take m env ≡ take n env₀ ++ constraints_from rs p)
-  push-end l = pushed (more-end rs (length rs) i l)
+-- one that is put on the stack stands before those still to come
+pub push-one : (env : List ℕ) (m i : ℕ) (xs : List ℕ) → m < length env → take (m + 1) (set env m i) ++ xs ≡ take m env ++ i ∷ xs
+push-one env m i xs h = rw (add-one m, take-suc-set env m i h, append_assoc (take m env) (i ∷ []) xs)
 
 -- ---- the constraint that holds, and what it makes of a record
 
