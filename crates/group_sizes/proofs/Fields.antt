@@ -9,6 +9,7 @@ use mathlib.Core.Logic.{inl, inr}
 use native.Mathlib.Omega.{arith}
 use native.Mathlib.Numerals.{add-one}
 use lib.Dec.{eqb}
+use Rattle.std.specs.Prelude.{if◌then◌else◌}
 use lib.ListN.{length}
 use Rattle.std.proofs.lemmas.Grind.{common_steps}
 use Rattle.rules.specs.Table.{at}
@@ -41,10 +42,10 @@ module _ (rs : List Record) where
   after_next p e = rw (add-one p, after_group, e)
 
   -- ---- the records of a declaration, one at a time
-  pub size-next : (p : ℕ) → p < length rs → is_decl (at rs p).kind ≡ false → (targets sizes : List ℕ)
-      → size_from targets sizes rs p ≡ size_at targets sizes rs p + size_from targets sizes rs (p + 1)
+  pub size-next : (p : ℕ) → p < length rs → (targets sizes : List ℕ)
+      → size_from targets sizes rs p ≡ (if is_decl (at rs p).kind then 0 else size_at targets sizes rs p + size_from targets sizes rs (p + 1))
   unfolding fields_size
-  size-next p l o targets sizes = rw (left-suc (length rs) p l, fields_size, o)
+  size-next p l targets sizes = rw (left-suc (length rs) p l, fields_size)
 
   pub size-end : (p : ℕ) → Ends rs p → (targets sizes : List ℕ) → size_from targets sizes rs p ≡ 0
   unfolding fields_size

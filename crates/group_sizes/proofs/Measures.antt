@@ -1,13 +1,12 @@
 -- The sizes, computed in the order of the table. Assumes nothing.
 use Rattle.std.proofs.Common.{Some}
-use Prim.Native.Nat.{ℕ, zero, suc, ◌+◌, ◌-◌, ◌*◌, ◌<◌, ◌≤◌, min}
-use mathlib.Core.Path.{◌≡◌, refl, sym, ◌∙◌}
+use Prim.Native.Nat.{ℕ, zero, suc, ◌+◌, ◌-◌, ◌<◌, ◌≤◌, min}
+use mathlib.Core.Path.{◌≡◌, refl}
 use mathlib.Core.List.{List}
 use mathlib.Core.Bool.{true, false}
 use native.Mathlib.Omega.{arith}
 use native.Mathlib.Numerals.{add-one}
 use Rattle.std.proofs.lemmas.Grind.{common_steps}
-use borrow.Author.Tests.{eq-eqb}
 use lib.Dec.{eqb}
 use Rattle.std.specs.Prelude.{if◌then◌else◌}
 use lib.ListN.{length, get_or, set, length-set}
@@ -19,40 +18,10 @@ use Rattle.rules.specs.InlineGroups.{is_kept}
 use Rattle.rules.specs.declared.Record.{Record}
 use Rattle.rules.specs.declared.Target.TheVariants.{Decl}
 use Rattle.group_sizes.specs.GroupsFirst.{GroupsFirst}
-use Rattle.group_sizes.specs.Members.{MemberIn, Ends}
-use Rattle.group_sizes.specs.declared.members.Member.{Member}
 use Rattle.group_sizes.specs.Targets.{TargetsKnown}
-use Rattle.group_sizes.specs.Sizes.{size_here, size_at, fields_size, size_from, total_size, Sized}
-use Rattle.group_sizes.proofs.Known.{named_in, group-before}
-use Rattle.group_sizes.proofs.Fields.{here-start, here-next, size-next, size-end}
-
--- ---- the size of one declaration: what is counted and what is left make the whole
-
-pub record Sizing (rs : List Record) (targets sizes : List ℕ) (d s p : ℕ) : Type 0 where
-  pub so_far : s + size_from targets sizes rs p ≡ size_from targets sizes rs (d + 1)
-  pub small : s ≤ 65535 * p
-
-pub sizing-start : (rs : List Record) (targets sizes : List ℕ) (d : ℕ) → Sizing rs targets sizes d 0 (d + 1)
-sizing-start rs targets sizes d = record { so_far = omega arith; small = omega arith }
-
--- the group of a field has a size
-pub target-in : {rs : List Record} {targets : List ℕ} (sizes : List ℕ) {m : Member} → TargetsKnown rs targets (length rs) → length rs ≤ length sizes → MemberIn rs m → m.kind ≡ 34 → get_or targets m.place 0 < length sizes
-target-in {rs} sizes {m} r l h e =
-    let n = named_in rs (at rs m.place).second (r.right m.place h.below (eq-eqb _ _ (sym h.kind ∙ e))) in
-    omega arith
-
-module _ {rs : List Record} {targets sizes : List ℕ} {d s : ℕ} where
-  pub sizing-end : {p : ℕ} → Sizing rs targets sizes d s p → Ends rs p → s ≡ size_from targets sizes rs (d + 1)
-  sizing-end {p} w e = let h = w.so_far in let z = size-end rs p e targets sizes in omega arith
-
-  pub sizing-next : {m : Member} {x : ℕ} → Sizing rs targets sizes d s m.place → MemberIn rs m → x ≡ size_here targets sizes m.kind m.place m.bound → x ≤ 65535 → Sizing rs targets sizes d (s + x) (m.place + 1)
-  unfolding size_at
-  sizing-next {m} {x} w h e l =
-      let q : x ≡ size_at targets sizes rs m.place = e ∙ rw (h.kind, h.bound) in
-      let z = size-next rs m.place h.below h.inside targets sizes in
-      let v = w.so_far in
-      let u = w.small in
-      record { so_far = omega arith; small = omega arith }
+use Rattle.group_sizes.specs.Sizes.{size_at, fields_size, size_from, total_size, Sized}
+use Rattle.group_sizes.proofs.Known.{group-before}
+use Rattle.group_sizes.proofs.Fields.{here-start, here-next}
 
 -- ---- a size that is stored changes none that it is counted from
 

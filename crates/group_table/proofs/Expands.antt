@@ -144,7 +144,7 @@ module _ {rs : List Record} {targets sizes : List ℕ} (k : Measured rs targets 
     walk-next new c e g =
         let l = w.past in
         let q = w.counted in
-        let z = size-next rs m.place h.below h.inside targets sizes in
+        let z = rw h.inside at (size-next rs m.place h.below targets sizes) in
         record {
           past = omega arith;
           here = here-next rs m.place h.inside w.here;
@@ -155,7 +155,7 @@ module _ {rs : List Record} {targets sizes : List ℕ} (k : Measured rs targets 
         }
 
     size-left : s.count + size_at targets sizes rs m.place ≤ a.count + get_or sizes d 0
-    size-left = let q = w.counted in let z = size-next rs m.place h.below h.inside targets sizes in omega arith
+    size-left = let q = w.counted in let z = rw h.inside at (size-next rs m.place h.below targets sizes) in omega arith
 
     -- ---- a group field: its group stands at g
     module _ (k34 : m.kind ≡ 34) where
