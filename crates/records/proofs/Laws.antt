@@ -8,7 +8,6 @@ use lib.ListN.{length, get_or, drop}
 use lib.Seq.{get_or-drop}
 use Rattle.rules.specs.Bytes.{number_at}
 use Rattle.rules.specs.Table.{record_at, records, decode, at, blank}
-use Rattle.rules.specs.declared.Record.{Record}
 
 number_at-drop : (w j : ℕ) (t : List ℕ) (i : ℕ) → number_at (drop j t) i w ≡ number_at t (j + i) w
 unfolding number_at

@@ -1,7 +1,7 @@
 // The records of a table, read from its bytes.
 #![tactic(auto)]
 
-ghost use Rattle.std.specs.Prelude.{◌≡◌, ◌+◌, ◌*◌, ◌<◌, ◌≤◌, length, take};
+ghost use Rattle.std.specs.Prelude.{◌≡◌, ◌++◌, ◌+◌, ◌*◌, ◌<◌, ◌≤◌, length, drop};
 ghost use Rattle.rules.specs.Table.{decode, at, record_at};
 
 use numbers::{number2, number4, number8};
@@ -43,10 +43,10 @@ pub fn record(bytes: &[u8], place: usize) -> Record
     }
 }
 
-// Writes the records to the start of `table`. Returns how many there are.
+// Writes the records to the start of `table`, all others of its records unchanged. Returns how many there are.
 pub fn read(bytes: &[u8], table: &mut [Record]) -> usize
     requires { length (decode bytes.now) ≤ length table.old }
-    ensures { (result ≡ length (decode bytes.now)) × (take result table.new ≡ decode bytes.now) }
+    ensures { (result ≡ length (decode bytes.now)) × (table.new ≡ decode bytes.now ++ drop result table.old) }
 {
     let n = count(bytes);
     for place in 0..n {
