@@ -1,25 +1,40 @@
--- `pass_checks::run_later` meets its contract: the passes below this one find nothing, and the buffer is as it was. Assumes nothing.
-use mathlib.Core.Path.{refl, ◌∙◌}
-use Rattle.table.proofs.Laws.{up-hit, up-miss, up-end}
-use Rattle.pass_checks.specs.Later.{by_later, later}
-use Rattle.pass_checks.proofs.Laws.{clean, faulty}
+-- `pass_checks::run_later` meets its contract: each pass finds faults, or leaves the buffer to the next. Assumes nothing.
+use Rattle.std.proofs.Common.{rules}
+use Rattle.rules.specs.Replies.{later_faults}
+use Rattle.pass_checks.proofs.Laws.{clean_start, clean_next, faulty_at, clean_last}
 use Rattle.pass_checks.proofs.run_later.Goals as goal
 
-pub loop-pass-init : goal.loop-pass-init
-loop-pass-init c = (refl, refl)
+pub returns-in_err-clean : goal.returns-in_err-clean
+unfolding later_faults
+returns-in_err-clean c =
+    faulty_at (clean_start _ _) c.check_field_identifiers.ensures c.in_err-clean.ensures (search rules)
 
-pub returns-then-total-gt0 : goal.returns-then-total-gt0
-unfolding later
-returns-then-total-gt0 c =
-    let z = faulty c.args.table.now _ c.loop-pass.pass c.loop-pass.auto.pass _ _ c.run-total.ensures c.if-total-gt0.true in
-    rw (← up-hit _ 3 10 c.loop-pass.pass c.loop-pass.invariant.1 c.loop-pass-test.true z.0, ← c.loop-pass.invariant.0) z.1
+pub returns-in_err-clean-2 : goal.returns-in_err-clean-2
+unfolding later_faults
+returns-in_err-clean-2 c =
+    faulty_at (clean_next (clean_start _ _) c.check_field_identifiers.ensures c.in_ok-clean.ensures) c.check_enum_declarations.ensures c.in_err-clean-2.ensures (search rules)
 
-pub loop-pass-preserved : goal.loop-pass-preserved
-loop-pass-preserved c =
-    let z = clean c.args.table.now _ c.loop-pass.pass c.loop-pass.auto.pass _ _ c.run-total.ensures c.if-total-gt0.false in
-    (z.0 ∙ c.loop-pass.invariant.0, up-miss _ 3 10 c.loop-pass.pass c.loop-pass.invariant.1 c.loop-pass-test.true z.1)
+pub returns-in_err-clean-3 : goal.returns-in_err-clean-3
+unfolding later_faults
+returns-in_err-clean-3 c =
+    faulty_at (clean_next (clean_next (clean_start _ _) c.check_field_identifiers.ensures c.in_ok-clean.ensures) c.check_enum_declarations.ensures c.in_ok-clean-2.ensures) c.check_size_fields.ensures c.in_err-clean-3.ensures (search rules)
+
+pub returns-in_err-clean-4 : goal.returns-in_err-clean-4
+unfolding later_faults
+returns-in_err-clean-4 c =
+    faulty_at (clean_next (clean_next (clean_next (clean_start _ _) c.check_field_identifiers.ensures c.in_ok-clean.ensures) c.check_enum_declarations.ensures c.in_ok-clean-2.ensures) c.check_size_fields.ensures c.in_ok-clean-3.ensures) c.check_fixed_fields.ensures c.in_err-clean-4.ensures (search rules)
+
+pub returns-in_err-clean-5 : goal.returns-in_err-clean-5
+unfolding later_faults
+returns-in_err-clean-5 c =
+    faulty_at (clean_next (clean_next (clean_next (clean_next (clean_start _ _) c.check_field_identifiers.ensures c.in_ok-clean.ensures) c.check_enum_declarations.ensures c.in_ok-clean-2.ensures) c.check_size_fields.ensures c.in_ok-clean-3.ensures) c.check_fixed_fields.ensures c.in_ok-clean-4.ensures) c.check_payload_fields.ensures c.in_err-clean-5.ensures (search rules)
+
+pub returns-in_err-clean-6 : goal.returns-in_err-clean-6
+unfolding later_faults
+returns-in_err-clean-6 c =
+    faulty_at (clean_next (clean_next (clean_next (clean_next (clean_next (clean_start _ _) c.check_field_identifiers.ensures c.in_ok-clean.ensures) c.check_enum_declarations.ensures c.in_ok-clean-2.ensures) c.check_size_fields.ensures c.in_ok-clean-3.ensures) c.check_fixed_fields.ensures c.in_ok-clean-4.ensures) c.check_payload_fields.ensures c.in_ok-clean-5.ensures) c.check_array_fields.ensures c.in_err-clean-6.ensures (search rules)
 
 pub returns : goal.returns
-unfolding later by_later
+unfolding later_faults
 returns c =
-    rw (← up-end _ 3 10 c.loop-pass.pass c.loop-pass.invariant.1 c.loop-pass-test.false, c.loop-pass.invariant.0)
+    clean_last (clean_next (clean_next (clean_next (clean_next (clean_next (clean_next (clean_start _ _) c.check_field_identifiers.ensures c.in_ok-clean.ensures) c.check_enum_declarations.ensures c.in_ok-clean-2.ensures) c.check_size_fields.ensures c.in_ok-clean-3.ensures) c.check_fixed_fields.ensures c.in_ok-clean-4.ensures) c.check_payload_fields.ensures c.in_ok-clean-5.ensures) c.check_array_fields.ensures c.in_ok-clean-6.ensures) c.check_padding_fields.ensures _ c.clean-7.ensures
