@@ -50,7 +50,7 @@ fn append_fault(text: &mut [u8], at: usize, fault: Fault) -> usize
     printed_text::append_list(text, at, u64::from(fault.code), &ns)
 }
 
-// The fault in the 20 bytes from `from`.
+// The fault in the 20 bytes from `from`. No impl of `From`, as neither type is this crate's own.
 fn fault_at(faults: &[u8], from: usize) -> Fault
     requires { from + 20 ≤ length faults.now }
     ensures { result ≡ fault_at faults.now from }
