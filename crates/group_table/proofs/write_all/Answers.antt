@@ -1,34 +1,61 @@
 -- `group_table::write_all` meets its contract: what the records below d become is written. Assumes nothing.
-use Rattle.std.proofs.Common.{arith, sym, ◌∙◌}
+use Rattle.std.proofs.Common.{arith, length, refl, sym, ◌+◌, ◌∙◌}
+use Rattle.std.proofs.lemmas.Grind.{common_steps}
 use Rattle.rules.specs.Table.{at}
-use Rattle.group_table.proofs.Loop.{write-start, write-other, call-first, call-rest, write-next, write-end}
+use Rattle.rules.specs.Places.{each}
+use Rattle.rules.specs.InlineGroups.{inlined}
+use Rattle.group_sizes.specs.Sizes.{total_size}
+use Rattle.group_table.specs.Outputs.{added_all}
+use Rattle.group_sizes.proofs.Measures.{total-next}
+use Rattle.group_table.proofs.Loop.{count-one, inlined-other, inlined-next}
+use Rattle.group_table.proofs.Totals.{total-rises, kept-decl}
 use Rattle.group_table.proofs.write_all.Goals as goal
 use Rattle.group_table.proofs.write_all.Goals.{then-is_kept, else-is_kept}
 
 pub loop-d-init : goal.loop-d-init
-loop-d-init c = rw c.new-env.ensures (write-start _ _ _)
+unfolding added_all each total_size
+loop-d-init c = (refl, refl, c.new-env.ensures, refl)
 
 pub add-first-requires : goal.add-first-requires
 unfolding at
 add-first-requires c =
-    call-first c.args.groups.now.measured c.requires.room_for_inlined c.requires.table_bound c.loop-d.invariant (omega arith) (sym c.is_kept.ensures ∙ c.if-is_kept.true)
+    let g = c.args.groups.now in
+    let n = total-next g.sizes.now g.table.now c.loop-d.d in
+    let r = total-rises g.sizes.now g.table.now (c.loop-d.d + 1) (length g.table.now) in
+    grind (arith, common_steps)
 
 pub expand-s-requires : goal.expand-s-requires
 unfolding at
 expand-s-requires c =
-    let a = c.add-first in
-    call-rest c.args.groups.now.measured c.requires.room_for_inlined c.requires.table_bound c.loop-d.invariant (omega arith) (sym c.is_kept.ensures ∙ c.if-is_kept.true) a.ensures a.auto.out
+    let g = c.args.groups.now in
+    let n = total-next g.sizes.now g.table.now c.loop-d.d in
+    let r = total-rises g.sizes.now g.table.now (c.loop-d.d + 1) (length g.table.now) in
+    let o = count-one _ _ c.add-first.ensures in
+    record {
+      decl = (omega arith, kept-decl (at g.table.now c.loop-d.d).kind (sym c.is_kept.ensures ∙ c.if-is_kept.true));
+      spare = λ e h q. rw c.loop-d.invariant.2 (omega (arith, g.measured.few));
+      room = grind (arith, common_steps);
+      wide = grind (arith, common_steps);
+    }
 
 pub loop-d-preserved : goal.loop-d-preserved
 unfolding at
 loop-d-preserved c =
-    let k = c.args.groups.now.measured in
-    let r = c.requires in
+    let g = c.args.groups.now in
     let v = c.loop-d.invariant in
+    let n = total-next g.sizes.now g.table.now c.loop-d.d in
     elim c.if-is_kept.branch [
-      | then-is_kept w ↦ rw (w.env-is, w.out-is, w.s-is) (write-next k r.room_for_inlined r.table_bound v (omega arith) (sym c.is_kept.ensures ∙ w.if-is_kept.true) w.add-first.ensures w.add-first.auto.out w.expand-s.ensures w.expand-s.auto.out)
-      | else-is_kept w ↦ rw (w.env-is, w.out-is, w.s-is) (write-other k r.room_for_inlined r.table_bound v (omega arith) (sym c.is_kept.ensures ∙ w.if-is_kept.false))
+      | then-is_kept w ↦
+          let i = sym c.is_kept.ensures ∙ w.if-is_kept.true in
+          let p = w.add-first.ensures in
+          let x = w.expand-s.ensures in
+          rw (w.env-is, w.out-is, w.s-is)
+          (x.made (length g.table.now) (omega arith) ∙ rw (p, v.0, v.2) (sym (inlined-next g.table.now c.loop-d.d _ i)), omega (arith, x.counted, count-one _ _ p, rw i at n), x.kept ∙ v.2, w.expand-s.auto.out ∙ w.add-first.auto.out ∙ v.3)
+      | else-is_kept w ↦
+          let i = sym c.is_kept.ensures ∙ w.if-is_kept.false in
+          rw (w.env-is, w.out-is, w.s-is) (v.0 ∙ rw (inlined-other g.table.now c.loop-d.d i), omega (arith, rw i at n), v.2, v.3)
     ]
 
 pub returns : goal.returns
-returns c = write-end c.args.groups.now.measured c.requires.room_for_inlined c.requires.table_bound c.loop-d.invariant (omega (arith, c.loop-d.auto.d-end)) (omega (arith, c.loop-d.auto.d-end))
+unfolding inlined
+returns c = grind (arith, common_steps)
