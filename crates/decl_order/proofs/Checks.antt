@@ -15,7 +15,7 @@ use Rattle.faults.specs.Notes.{no_faults}
 use Rattle.faults.proofs.Laws.{noted-logged, total-after, logged_none}
 use Rattle.decl_visits.specs.declared.VisitProgress.{VisitProgress}
 use Rattle.std.specs.Prelude.{Ok, Err}
-use Rattle.decl_visits.specs.Contract.{started, StateHeld}
+use Rattle.decl_visits.specs.Contract.{StateHeld}
 use Rattle.decl_visits.proofs.Loop.{order-read, order-short}
 use Rattle.decl_order.specs.Contract.{Placed, DeclIdentifiersChecked}
 use Rattle.decl_order.proofs.Promise.{listed-declared}
@@ -29,7 +29,7 @@ some-found : (fs : List Fault) → 0 < length fs → fs ≡ [] → ⊥
 some-found fs l e = let z = ap length e in omega arith
 
 -- what the visits leave
-module _ (rs : List Record) {f₀ f : List ℕ} {a : VisitProgress} (h : StateHeld rs started f₀ (visited rs) a f) where
+module _ (rs : List Record) {f₀ f : List ℕ} {a : VisitProgress} (h : StateHeld rs f₀ (visited rs) a f) where
   faults-logged : log a.tally f ≡ logged f₀ (pass2 rs)
   unfolding pass2
   faults-logged = h.faults_are ∙ noted-logged f₀ (map (fault_of rs) (visited rs).faults)

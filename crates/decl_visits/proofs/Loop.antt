@@ -1,97 +1,87 @@
 -- The loop of the whole pass: what holds where it begins, after each turn, and at its end. Assumes nothing.
-use mathlib.Core.Path.{◌≡◌, refl, sym, ◌∙◌, ap}
-use mathlib.Core.Bool.{Bool, true, false}
-use mathlib.Core.List.{List, [], ◌∷◌}
-use Prim.Native.Nat.{ℕ, zero, suc, ◌+◌, ◌-◌, ◌<◌, ◌≤◌, zero-le}
+use mathlib.Core.Path.{◌≡◌, refl}
+use mathlib.Core.Bool.{false}
+use mathlib.Core.List.{List}
+use Prim.Native.Nat.{ℕ, suc, ◌+◌, ◌-◌, ◌<◌, ◌≤◌}
 use native.Mathlib.Omega.{arith}
 use lib.ListN.{length, take, replicate, length-replicate}
 use lib.Seq.{sets-eq, take-append_seam}
 use Rattle.std.proofs.lemmas.List.{take-replicate}
-use Rattle.rules.specs.Kinds.{is_decl, is_named_decl}
+use Rattle.std.proofs.lemmas.List.Sums.{count_by-le-length}
+use lib.Dec.{eqb}
+use Rattle.rules.specs.Kinds.{is_decl}
 use Rattle.rules.specs.Table.{at}
 use Rattle.rules.specs.Faults.{log}
 use Rattle.rules.specs.Visits.{State, walk, visit, unvisited, visit_all}
 use Rattle.rules.specs.DeclIdentifiers.{references, root_reference, root_references, visited}
 use Rattle.rules.specs.declared.Record.{Record}
 use Rattle.rules.specs.declared.Reference.{Reference}
-use Rattle.rules.specs.declared.Tally.{Tally}
 use Rattle.faults.specs.Notes.{no_faults}
 use Rattle.faults.proofs.Laws.{noted-none}
-use Rattle.table.proofs.Searches.{false-true, named-is-decl}
-use Rattle.decl_references.proofs.Refers.{root-nowhere}
 use Rattle.decl_visits.specs.declared.VisitProgress.{VisitProgress}
 use Rattle.decl_visits.specs.Contract.{unvisited_count, unvisited_in, started, StateHeld, VisitReady, Within, taken_up, Visited}
 use Rattle.decl_visits.proofs.Growth.{unvisited-all, walk-growth, visit-growth, references-length}
-use Rattle.decl_visits.proofs.VisitReady.{relax, after, visit-grows, within-root}
+use Rattle.decl_visits.proofs.VisitReady.{relax, after, visit-grows, within-root, root-nowhere}
 
-unvisited-few : (l : List ℕ) → unvisited_count l ≤ length l
+unvisited-few : (l : List ℕ) {n : ℕ} → length l ≡ n → unvisited_count l < suc n
 unfolding unvisited_count
-unvisited-few [] = zero-le
-unvisited-few (zero ∷ l) = let h = unvisited-few l in omega arith
-unvisited-few (suc m ∷ l) = let h = unvisited-few l in omega arith
+unvisited-few l e = omega (arith, count_by-le-length (λ (m : ℕ). eqb m 0) l)
 
 -- what the roots from p on make of a state
 abbrev rest_of : List Record → ℕ → State → State
 rest_of rs p s = walk (visit (suc (length rs)) (references rs)) (root_references rs p (length rs - p)) s
 
 -- the roots below p are taken up
-pub record Turn (rs : List Record) (a₀ : VisitProgress) (f₀ : List ℕ) (a : VisitProgress) (f : List ℕ) (p : ℕ) : Type 0 where
+pub record Turn (rs : List Record) (f₀ : List ℕ) (a : VisitProgress) (f : List ℕ) (p : ℕ) : Type 0 where
   pub ready : VisitReady rs a f (length rs - p) 0
-  pub began : (ready.progress₀ ≡ a₀) × (ready.buffer₀ ≡ f₀)
+  pub began : ready.buffer₀ ≡ f₀
   pub rest : rest_of rs p ready.state ≡ visited rs
 
 marks-started : (n : ℕ) → n ≤ 1600 → take n started.marks ≡ replicate n 0
 unfolding started
 marks-started n h = take-replicate n 1600 0 h
 
-counts-started : (started.listed ≡ 0) × (started.tally ≡ no_faults)
+counts-started : (started.listed ≡ 0) × (started.tally ≡ no_faults) × (length started.places ≡ 1600)
 unfolding started
-counts-started = (refl, refl)
+counts-started = (refl, refl, length-replicate {A = ℕ} 1600 0)
 
-pub loop-start : (rs : List Record) (f : List ℕ) (a : VisitProgress) → length rs ≤ 1600 → a ≡ started → Turn rs a f a f 0
+pub loop-start : (rs : List Record) (f : List ℕ) → length rs ≤ 1600 → Turn rs f started f 0
 unfolding visited visit_all
-loop-start rs f a few e =
-    let m : take (length rs) a.marks ≡ replicate (length rs) 0 = rw e (marks-started (length rs) few) in
-    let l : a.listed ≡ 0 = rw e counts-started.0 in
-    let t : a.tally ≡ no_faults = rw e counts-started.1 in
-    let n : unvisited_in rs a ≡ length rs = rw m (unvisited-all (length rs)) in
-    let g = ap (λ (x : Tally). x.total) t in
-    record {
-      ready = record {
-        state = unvisited (length rs);
-        progress₀ = a;
-        buffer₀ = f;
-        held = record {
-          marks_are = m;
-          marks_rest = refl;
-          places_are = refl;
-          listed_is = l;
-          faults_are = rw t (noted-none (log no_faults f));
-        };
-        few = few;
-        size = rw m (length-replicate (length rs) 0);
-        room = omega arith;
-        spare = omega arith;
-      };
-      began = (refl, refl);
-      rest = let z : length rs - 0 ≡ length rs = omega arith in rw z;
-    }
+loop-start rs f few = record {
+  ready = record {
+    state = unvisited (length rs);
+    buffer₀ = f;
+    held = record {
+      marks_are = marks-started (length rs) few;
+      marks_rest = refl;
+      places_are = refl;
+      listed_is = counts-started.0;
+      faults_are = rw counts-started.1 (noted-none (log no_faults f));
+    };
+    few = few;
+    size = length-replicate (length rs) 0;
+    room = omega (arith, unvisited-all (length rs));
+    spare = omega (arith, unvisited-all (length rs));
+  };
+  began = refl;
+  rest = let z : length rs - 0 ≡ length rs = omega arith in rw z;
+}
 
-module _ (rs : List Record) {a₀ : VisitProgress} {f₀ : List ℕ} {a : VisitProgress} {f : List ℕ} {p : ℕ} (h : Turn rs a₀ f₀ a f p) where
-  pub loop-end : a₀ ≡ started → length rs ≤ p → StateHeld rs started f₀ (visited rs) a f
+module _ (rs : List Record) {f₀ : List ℕ} {a : VisitProgress} {f : List ℕ} {p : ℕ} (h : Turn rs f₀ a f p) where
+  pub loop-end : length rs ≤ p → StateHeld rs f₀ (visited rs) a f
   unfolding walk root_references
-  loop-end e l =
+  loop-end l =
       let z : length rs - p ≡ 0 = omega arith in
-      rw (← e, ← h.began.0, ← h.began.1, ← (rw z at h.rest)) h.ready.held
+      rw (← h.began, ← (rw z at h.rest)) h.ready.held
 
   module _ (l : p < length rs) {r : Reference} (e : r ≡ root_reference rs p) where
     pub loop-call : Within (length rs) r × VisitReady rs a f 1 0
     loop-call = (rw e (within-root rs p l), relax rs h.ready (omega arith) (omega arith))
 
-    pub loop-turn : (a' : VisitProgress) (f' : List ℕ) → Visited rs r a f a' f' → Turn rs a₀ f₀ a' f' (p + 1)
+    pub loop-turn : (a' : VisitProgress) (f' : List ℕ) → Visited rs r a f a' f' → Turn rs f₀ a' f' (p + 1)
     unfolding walk root_references relax after
     loop-turn a' f' v =
-        let n : unvisited_in rs a < suc (length rs) = omega (arith, unvisited-few (take (length rs) a.marks), h.ready.size) in
+        let n : unvisited_in rs a < suc (length rs) = rw h.ready.held.marks_are (unvisited-few h.ready.state.marks h.ready.size) in
         let z : length rs - p ≡ suc (length rs - (p + 1)) = omega arith in
         record {
           ready = after rs (length rs - (p + 1)) (relax rs h.ready (omega arith) (omega arith)) (taken_up rs r) (visit-grows rs h.ready.few r) v (suc (length rs)) n;
@@ -100,12 +90,8 @@ module _ (rs : List Record) {a₀ : VisitProgress} {f₀ : List ℕ} {a : VisitP
         }
 
   -- only a declaration refers to anything
-  pub loop-skip : p < length rs → is_decl (at rs p).kind ≡ false → Turn rs a₀ f₀ a f (p + 1)
-  loop-skip l e = loop-turn l (root-nowhere rs p refl (not-named (is_named_decl (at rs p).kind) refl) (λ t. false-true (sym e ∙ ap is_decl t))) a f (λ k b₀ g₀ s n i. i)
-    where
-      not-named : (b : Bool) → is_named_decl (at rs p).kind ≡ b → is_named_decl (at rs p).kind ≡ false
-      not-named false h = h
-      not-named true h = false-true (sym e ∙ named-is-decl (at rs p).kind h)
+  pub loop-skip : p < length rs → is_decl (at rs p).kind ≡ false → Turn rs f₀ a f (p + 1)
+  loop-skip l e = loop-turn l (root-nowhere rs p e) a f (λ k g₀ s n i. i)
 
 -- no more places are listed than the table has
 pub order-short : (rs : List Record) → length rs ≤ 1600 → length (visited rs).order ≤ length rs
@@ -116,13 +102,9 @@ order-short rs few =
     let n = unvisited-all (length rs) in
     omega arith
 
-places-started : length started.places ≡ 1600
-unfolding started
-places-started = length-replicate {A = ℕ} 1600 0
-
 -- the first places are the order
-pub order-read : (rs : List Record) (f₀ : List ℕ) (a : VisitProgress) (f : List ℕ) → length rs ≤ 1600 → StateHeld rs started f₀ (visited rs) a f → take a.listed a.places ≡ (visited rs).order
+pub order-read : (rs : List Record) (f₀ : List ℕ) (a : VisitProgress) (f : List ℕ) → length rs ≤ 1600 → StateHeld rs f₀ (visited rs) a f → take a.listed a.places ≡ (visited rs).order
 order-read rs f₀ a f few h =
     let s = order-short rs few in
-    let l : 0 + length (visited rs).order ≤ length started.places = omega (arith, places-started) in
+    let l : 0 + length (visited rs).order ≤ length started.places = omega (arith, counts-started.2) in
     rw (h.places_are, h.listed_is, sets-eq (visited rs).order started.places 0 l, take-append_seam)

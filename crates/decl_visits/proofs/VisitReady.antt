@@ -1,18 +1,16 @@
 -- What the cycle of visit and walk needs at each call and each return, over lists and numbers. Assumes nothing.
+use Rattle.std.proofs.lemmas.Grind.{common_steps}
 use mathlib.Core.Path.{◌≡◌, refl, sym, ◌∙◌, ap}
-use mathlib.Core.Bool.{Bool, true, false, ◌&&◌}
+use mathlib.Core.Bool.{true, false}
 use mathlib.Core.List.{List, [], ◌∷◌, ◌++◌, map, map-append}
-use Prim.Native.Nat.{ℕ, zero, suc, ◌+◌, ◌*◌, ◌-◌, ◌<◌, ◌≤◌}
-use native.Mathlib.Nat.{add-zero, zero-add}
+use Prim.Native.Nat.{ℕ, zero, suc, ◌+◌, ◌*◌, ◌-◌, ◌^◌, ◌<◌, ◌≤◌}
+use native.Mathlib.Nat.{zero-add}
 use native.Mathlib.Omega.{arith}
-use borrow.Author.Tests.{ne_eqb}
-use lib.Dec.{eqb}
-use lib.ListN.{length, get_or, set, take, drop, length-append, length-set, length-map}
-use lib.Seq.{sets, get_or-take, take-set-lt}
-use Rattle.std.specs.Prelude.{if◌then◌else◌, None, Option, Some, ℕ}
-use Rattle.rules.specs.Kinds as kind
-use Rattle.rules.specs.Kinds.{is, is_decl, may_refer, is_named_decl, is_packet_or_struct}
-use Rattle.rules.specs.Table.{at, bit1, named}
+use lib.ListN.{length, get_or, set, take, length-set, length-map}
+use lib.Seq.{sets, get_or-take, take-set-lt, drop-set-lt}
+use Rattle.std.specs.Prelude.{Some, ℕ}
+use Rattle.rules.specs.Kinds.{is_decl, may_refer}
+use Rattle.rules.specs.Table.{at}
 use Rattle.rules.specs.Places.{holds_at, decl_named}
 use Rattle.rules.specs.Faults.{single, log}
 use Rattle.rules.specs.Visits.{State, mark_of, opened, faulted, listed, resolve, walk, enter, visit}
@@ -24,61 +22,85 @@ use Rattle.rules.specs.declared.Reference.TheVariants.{Nowhere, Wrong, Follow}
 use Rattle.faults.specs.Notes.{no_faults}
 use Rattle.faults.proofs.Laws.{noted-then, noted_one, total-after}
 use Rattle.table.proofs.Laws.{first-in, same-default}
-use Rattle.table.proofs.Searches.{false-true}
 use Rattle.decl_visits.specs.declared.VisitProgress.{VisitProgress}
-use Rattle.decl_visits.specs.Contract.{unvisited_count, unvisited_in, listing, Noted, StateHeld, VisitReady, Within, Steps, taken_up, walked, Visited, Walked}
+use Rattle.decl_visits.specs.Contract.{unvisited_count, unvisited_in, started, listing, Noted, StateHeld, VisitReady, Within, Steps, taken_up, walked, Visited, Walked}
 use Rattle.decl_visits.proofs.Growth.{Growth, unvisited-opened, resolve-growth, walk-growth, visit-growth, fields-one, fields-decl, fields-past, fields-length, references-length}
 
 -- ---- how each step of the code changes the state that is held
 
 -- one more place goes behind those that are listed
 sets_more : (l o : List ℕ) (i d : ℕ) → sets o i (l ++ d ∷ []) ≡ set (sets o i l) (i + length l) d
-sets_more [] o i d = rw add-zero
-sets_more (x ∷ l) o i d =
-    let e : suc i + length l ≡ i + suc (length l) = omega arith in
-    rw (← e) (sets_more l (set o i x) (suc i) d)
-
-drop-set : (n : ℕ) (l : List ℕ) (i v : ℕ) → i < n → drop n (set l i v) ≡ drop n l
-drop-set zero l i v h = absurd (omega arith)
-drop-set (suc n) [] i v h = refl
-drop-set (suc n) (x ∷ l) zero v h = refl
-drop-set (suc n) (x ∷ l) (suc i) v h = drop-set n l i v (omega arith)
+sets_more [] o i d = grind (arith, common_steps)
+sets_more (x ∷ l) o i d = grind (arith, common_steps, sets_more l (set o i x) (suc i) d)
 
 -- the declaration at d is being visited
 abbrev pub opening : ℕ → VisitProgress → VisitProgress
 opening d a = record { marks = set a.marks d 1; places = a.places; listed = a.listed; tally = a.tally }
 
-module _ (rs : List Record) (a₀ : VisitProgress) (f₀ : List ℕ) (s : State) (a : VisitProgress) (f : List ℕ) (h : StateHeld rs a₀ f₀ s a f) where
-  held-note : (c p : ℕ) (a' : VisitProgress) (f' : List ℕ) → Noted rs a f c p a' f' → StateHeld rs a₀ f₀ (faulted c p s) a' f'
-  held-note c p a' f' e = record {
-    marks_are = ap (take (length rs)) e.marks ∙ h.marks_are;
-    marks_rest = ap (drop (length rs)) e.marks ∙ h.marks_rest;
-    places_are = e.places ∙ h.places_are;
-    listed_is = e.listed ∙ h.listed_is;
-    faults_are = rw map-append (noted-then (log no_faults f₀) (map (fault_of rs) s.faults) (single c (at rs p) ∷ []) h.faults_are (e.faults ∙ noted_one (log a.tally f) (single c (at rs p))));
-  }
+module _ (rs : List Record) {f₀ : List ℕ} {s : State} {a : VisitProgress} {f : List ℕ} (h : StateHeld rs f₀ s a f) where
+  held-note : {c p : ℕ} {a' : VisitProgress} {f' : List ℕ} → Noted rs a f c p a' f' → StateHeld rs f₀ (faulted c p s) a' f'
+  held-note {c} {p} e =
+      let n = noted-then (log no_faults f₀) (map (fault_of rs) s.faults) (single c (at rs p) ∷ []) h.faults_are (e.faults ∙ noted_one (log a.tally f) (single c (at rs p))) in
+      grind (arith, common_steps, map-append (fault_of rs) s.faults (record { code = c; place = p } ∷ []), n)
 
-  pub held-total : a.tally.total ≡ length s.faults
+  held-total : a.tally.total ≡ length s.faults
   held-total = total-after no_faults f₀ (map (fault_of rs) s.faults) h.faults_are ∙ zero-add _ ∙ length-map s.faults (fault_of rs)
 
   module _ {d : ℕ} (l : d < length rs) where
-    held-open : StateHeld rs a₀ f₀ (opened d s) (opening d a) f
-    held-open = record {
-      marks_are = take-set-lt (length rs) a.marks d 1 l ∙ ap (λ (x : List ℕ). set x d 1) h.marks_are;
-      marks_rest = drop-set (length rs) a.marks d 1 l ∙ h.marks_rest;
-      places_are = h.places_are;
-      listed_is = h.listed_is;
-      faults_are = h.faults_are;
-    }
+    held-open : StateHeld rs f₀ (opened d s) (opening d a) f
+    held-open = grind (arith, common_steps, take-set-lt (length rs) a.marks d 1, drop-set-lt (length rs) a.marks d 1)
 
-    held-list : StateHeld rs a₀ f₀ (listed d s) (listing d a) f
-    held-list = record {
-      marks_are = take-set-lt (length rs) a.marks d 2 l ∙ ap (λ (x : List ℕ). set x d 2) h.marks_are;
-      marks_rest = drop-set (length rs) a.marks d 2 l ∙ h.marks_rest;
-      places_are = rw (h.listed_is, h.places_are, sets_more, zero-add);
-      listed_is = let e = h.listed_is in simp length-append (omega arith);
-      faults_are = h.faults_are;
-    }
+    held-list : StateHeld rs f₀ (listed d s) (listing d a) f
+    held-list = grind (arith, common_steps, take-set-lt (length rs) a.marks d 2, drop-set-lt (length rs) a.marks d 2, sets_more s.order started.places 0 d)
+
+-- ---- a declaration to visit stands in the table
+
+module _ (rs : List Record) where
+  named_in : (x e : ℕ) → decl_named rs x ≡ Some e → e < length rs
+  unfolding decl_named
+  named_in x e h = (first-in (holds_at rs (DeclNamed x)) (length rs) 0 e h).1
+
+  within-field : (p : ℕ) → Within (length rs) (field_reference rs p)
+  unfolding field_reference group_reference type_reference
+  within-field p = grind (arith, common_steps, named_in (at rs p).second)
+
+  within-own : (d : ℕ) → Within (length rs) (own_reference rs d)
+  unfolding own_reference parent_reference
+  within-own d = grind (arith, common_steps, named_in (at rs d).second)
+
+  pub within-root : (p : ℕ) → p < length rs → Within (length rs) (root_reference rs p)
+  unfolding root_reference test_reference
+  within-root p l = grind (arith, common_steps)
+
+-- ---- what the definitions do, a case at a time
+
+walk-last : (v : ℕ → State → State) (l : List Reference) (r : Reference) (s : State) → walk v (l ++ (r ∷ [])) s ≡ resolve v r (walk v l s)
+unfolding walk
+walk-last v [] r s = refl
+walk-last v (a ∷ l) r s = walk-last v l r (resolve v a s)
+
+visit-new : (rs : List Record) (k d : ℕ) (s : State) → mark_of s d ≡ 0
+    → visit (suc k) (references rs) d s ≡ listed d (taken_up rs (own_reference rs d) k (walked rs (d + 1) k (opened d s)))
+unfolding visit enter references
+visit-new rs k d s e = grind (arith, common_steps, walk-last (visit k (references rs)) (field_references rs (d + 1) (length rs - (d + 1))) (own_reference rs d) (opened d s))
+
+visit-open : (f : ℕ → List Reference) (k d : ℕ) (s : State) → mark_of s d ≡ 1 → visit (suc k) f d s ≡ faulted 2 d s
+unfolding visit enter
+visit-open f k d s e = grind (arith, common_steps)
+
+visit-listed : (f : ℕ → List Reference) (k d : ℕ) (s : State) → ¬ (mark_of s d ≡ 0) → ¬ (mark_of s d ≡ 1) → visit (suc k) f d s ≡ s
+unfolding visit enter
+visit-listed f k d s e g = grind (arith, common_steps)
+
+-- a field of a kind that refers to nothing
+nowhere : (rs : List Record) (p : ℕ) → may_refer (at rs p).kind ≡ false → field_reference rs p ≡ Nowhere
+unfolding field_reference
+nowhere rs p e = grind (arith, common_steps)
+
+-- in table order only a declaration refers to anything
+pub root-nowhere : (rs : List Record) (p : ℕ) → is_decl (at rs p).kind ≡ false → Nowhere ≡ root_reference rs p
+unfolding root_reference
+root-nowhere rs p e = grind (arith, common_steps)
 
 -- ---- what a step leaves
 
@@ -96,7 +118,6 @@ module _ (rs : List Record) {a : VisitProgress} {f : List ℕ} where
   unfoldable pub relax : {x y x' y' : ℕ} → VisitReady rs a f x y → x' ≤ x → y' ≤ y → VisitReady rs a f x' y'
   relax h p q = record {
     state = h.state;
-    progress₀ = h.progress₀;
     buffer₀ = h.buffer₀;
     held = h.held;
     few = h.few;
@@ -105,128 +126,30 @@ module _ (rs : List Record) {a : VisitProgress} {f : List ℕ} where
     spare = let r = h.spare in omega arith;
   }
 
+  pub note-fits : {y : ℕ} → VisitReady rs a f 1 y → a.tally.total + 1 < 2 ^ 64
+  note-fits h = let t = held-total rs h.held in let s = h.spare in omega arith
+
   -- after a step g, by which the faults grow by z at most
   module _ (x : ℕ) {y z : ℕ} (h : VisitReady rs a f (x + z) y) {a' : VisitProgress} {f' : List ℕ} (g : ℕ → State → State) (grows : (k : ℕ) (s : State) → Growth s (g k s) z) (v : Steps rs g a f a' f') (k : ℕ) (n : unvisited_in rs a < k) where
-    pub now-held : StateHeld rs h.progress₀ h.buffer₀ (g k h.state) a' f'
-    now-held = v k h.progress₀ h.buffer₀ h.state n h.held
-
     pub falls : unvisited_in rs a' ≤ unvisited_in rs a
-    falls =
-        let e₀ = ap unvisited_count h.held.marks_are in
-        let e₁ = ap unvisited_count now-held.marks_are in
-        let b = (grows k h.state).falls in
-        omega arith
+    falls = rw (h.held.marks_are, (v k h.buffer₀ h.state n h.held).marks_are) (grows k h.state).falls
 
     unfoldable pub after : VisitReady rs a' f' x y
     after =
         let b = grows k h.state in
-        let e₀ = ap unvisited_count h.held.marks_are in
-        let e₁ = ap unvisited_count now-held.marks_are in
-        let i₀ = h.held.listed_is in
-        let i₁ = now-held.listed_is in
-        let j₀ = held-total rs h.progress₀ h.buffer₀ h.state a f h.held in
-        let j₁ = held-total rs h.progress₀ h.buffer₀ (g k h.state) a' f' now-held in
         let r = h.room in
         let s = h.spare in
         let br = b.room in
         let bs = b.spare in
         record {
           state = g k h.state;
-          progress₀ = h.progress₀;
           buffer₀ = h.buffer₀;
-          held = now-held;
+          held = v k h.buffer₀ h.state n h.held;
           few = h.few;
-          size = ap length now-held.marks_are ∙ b.size ∙ sym (ap length h.held.marks_are) ∙ h.size;
+          size = b.size ∙ h.size;
           room = omega arith;
           spare = omega arith;
         }
-
--- ---- a declaration to visit stands in the table
-
-guard : (n : ℕ) (b : Bool) (x y : Reference) → Within n x → Within n y → Within n (if b then x else y)
-guard n true x y h k = h
-guard n false x y h k = k
-
-module _ (rs : List Record) where
-  abbrev FoundIn : Option ℕ → Type 0
-  FoundIn f = (e : ℕ) → f ≡ Some e → e < length rs
-
-  named_in : (x : ℕ) → FoundIn (decl_named rs x)
-  unfolding decl_named
-  named_in x e h = (first-in (holds_at rs (DeclNamed x)) (length rs) 0 e h).1
-
-  within-group : (p : ℕ) (f : Option ℕ) → FoundIn f → Within (length rs) (group_reference rs p f)
-  unfolding group_reference
-  within-group p None h = tt
-  within-group p (Some e) h = guard (length rs) (is kind.group (at rs e)) (Follow e) (Wrong 4 p) (h e refl) tt
-
-  within-type : (b : Bool) (p : ℕ) (f : Option ℕ) → FoundIn f → Within (length rs) (type_reference b rs p f)
-  unfolding type_reference
-  within-type b p None h = tt
-  within-type b p (Some e) h =
-      guard (length rs) (is kind.packet (at rs e)) (Wrong 6 p) (if b then Follow e else Nowhere) tt (guard (length rs) b (Follow e) Nowhere (h e refl) tt)
-
-  within-parent : (p : ℕ) (f : Option ℕ) → FoundIn f → Within (length rs) (parent_reference rs p f)
-  unfolding parent_reference
-  within-parent p None h = tt
-  within-parent p (Some e) h = guard (length rs) (eqb (at rs e).kind (at rs p).kind) (Follow e) (Wrong 8 p) (h e refl) tt
-
-  within-test : (p : ℕ) (f : Option ℕ) → Within (length rs) (test_reference rs p f)
-  unfolding test_reference
-  within-test p None = tt
-  within-test p (Some e) = guard (length rs) (is kind.packet (at rs e)) Nowhere (Wrong 10 p) tt tt
-
-  within-field : (p : ℕ) → Within (length rs) (field_reference rs p)
-  unfolding field_reference
-  within-field p =
-      let x = (at rs p).second in
-      let f = decl_named rs x in
-      guard (length rs) (is kind.group_field (at rs p)) (group_reference rs p f) _ (within-group p f (named_in x))
-      (guard (length rs) (is kind.typedef (at rs p)) (type_reference true rs p f) _ (within-type true p f (named_in x))
-      (guard (length rs) (is kind.array (at rs p) && named x) (type_reference (bit1 (at rs p)) rs p f) Nowhere (within-type (bit1 (at rs p)) p f (named_in x)) tt))
-
-  within-own : (d : ℕ) → Within (length rs) (own_reference rs d)
-  unfolding own_reference
-  within-own d =
-      let x = (at rs d).second in
-      let f = decl_named rs x in
-      guard (length rs) (is_packet_or_struct (at rs d).kind && named x) (parent_reference rs d f) Nowhere (within-parent d f (named_in x)) tt
-
-  pub within-root : (p : ℕ) → p < length rs → Within (length rs) (root_reference rs p)
-  unfolding root_reference
-  within-root p l =
-      let f = decl_named rs (at rs p).second in
-      guard (length rs) (is_named_decl (at rs p).kind) (Follow p) _ l
-      (guard (length rs) (is kind.test (at rs p)) (test_reference rs p f) Nowhere (within-test p f) tt)
-
--- ---- what the definitions do, a case at a time
-
-walk-last : (v : ℕ → State → State) (l : List Reference) (r : Reference) (s : State) → walk v (l ++ (r ∷ [])) s ≡ resolve v r (walk v l s)
-unfolding walk
-walk-last v [] r s = refl
-walk-last v (a ∷ l) r s = walk-last v l r (resolve v a s)
-
-visit-new : (rs : List Record) (k d : ℕ) (s : State) → mark_of s d ≡ 0
-    → visit (suc k) (references rs) d s
-    ≡ listed d (resolve (visit k (references rs)) (own_reference rs d) (walk (visit k (references rs)) (field_references rs (d + 1) (length rs - (d + 1))) (opened d s)))
-unfolding visit enter references
-visit-new rs k d s e = rw (e, visit) (ap (listed d) (walk-last (visit k (references rs)) (field_references rs (d + 1) (length rs - (d + 1))) (own_reference rs d) (opened d s)))
-
-visit-open : (f : ℕ → List Reference) (k d : ℕ) (s : State) → mark_of s d ≡ 1 → visit (suc k) f d s ≡ faulted 2 d s
-unfolding visit enter
-visit-open f k d s e = rw (e, visit)
-
-visit-listed : (f : ℕ → List Reference) (k d : ℕ) (s : State) → ¬ (mark_of s d ≡ 0) → ¬ (mark_of s d ≡ 1) → visit (suc k) f d s ≡ s
-unfolding visit enter
-visit-listed f k d s e g = rw (ne_eqb (mark_of s d) 0 e, ne_eqb (mark_of s d) 1 g, visit)
-
--- a field of a kind that refers to nothing
-nowhere : (rs : List Record) (p : ℕ) → may_refer (at rs p).kind ≡ false → field_reference rs p ≡ Nowhere
-unfolding field_reference
-nowhere rs p e = rw (other 34 refl, other 33 refl, other 30 refl)
-  where
-    other : (k : ℕ) → may_refer k ≡ true → eqb (at rs p).kind k ≡ false
-    other k h = ne_eqb (at rs p).kind k (λ i. false-true (sym e ∙ ap may_refer i ∙ h))
 
 -- ---- what each call requires and each return ensures
 
@@ -235,27 +158,29 @@ module _ (rs : List Record) {a : VisitProgress} {f : List ℕ} where
   ret-follow e v = rw e v
 
   pub ret-wrong : {r : Reference} {c p : ℕ} {a' : VisitProgress} {f' : List ℕ} → r ≡ Wrong c p → Noted rs a f c p a' f' → Visited rs r a f a' f'
-  ret-wrong {c = c} {p = p} {a' = a'} {f' = f'} e n = rw e (λ k a₀ f₀ s _ h. held-note rs a₀ f₀ s a f h c p a' f' n)
+  ret-wrong e n = rw e (λ k f₀ s _ h. held-note rs h n)
 
   module _ {d : ℕ} (l : d < length rs) (h : VisitReady rs a f 1 0) where
     -- the mark that is read
-    mark-read : get_or a.marks d 0 ≡ get_or (take (length rs) a.marks) d 2
-    mark-read = sym (get_or-take (length rs) a.marks d 0 l) ∙ same-default (take (length rs) a.marks) d 0 2 (let z = h.size in omega arith)
-
-    mark-held : {a₀ : VisitProgress} {f₀ : List ℕ} {s : State} → StateHeld rs a₀ f₀ s a f → get_or a.marks d 0 ≡ mark_of s d
-    mark-held e = mark-read ∙ ap (λ (x : List ℕ). get_or x d 2) e.marks_are
+    mark-held : {f₀ : List ℕ} {s : State} → StateHeld rs f₀ s a f → get_or a.marks d 0 ≡ mark_of s d
+    mark-held e =
+        let z : d < length (take (length rs) a.marks) = rw (h.held.marks_are, h.size) l in
+        sym (get_or-take (length rs) a.marks d 0 l) ∙ same-default (take (length rs) a.marks) d 0 2 z ∙ ap (λ (x : List ℕ). get_or x d 2) e.marks_are
 
     pub ret-open : {a' : VisitProgress} {f' : List ℕ} → get_or a.marks d 0 ≡ 1 → Noted rs a f 2 d a' f' → Visited rs (Follow d) a f a' f'
-    ret-open e n zero a₀ f₀ s u i = absurd (omega arith)
-    ret-open {a'} {f'} e n (suc k) a₀ f₀ s u i = rw (visit-open (references rs) k d s (sym (mark-held i) ∙ e)) (held-note rs a₀ f₀ s a f i 2 d a' f' n)
+    ret-open e n zero f₀ s u i = absurd (omega arith)
+    ret-open e n (suc k) f₀ s u i = rw (visit-open (references rs) k d s (sym (mark-held i) ∙ e)) (held-note rs i n)
 
     pub ret-listed : ¬ (get_or a.marks d 0 ≡ 0) → ¬ (get_or a.marks d 0 ≡ 1) → Visited rs (Follow d) a f a f
-    ret-listed e n zero a₀ f₀ s u i = absurd (omega arith)
-    ret-listed e n (suc k) a₀ f₀ s u i = rw (visit-listed (references rs) k d s (λ z. e (mark-held i ∙ z)) (λ z. n (mark-held i ∙ z))) i
+    ret-listed e n zero f₀ s u i = absurd (omega arith)
+    ret-listed e n (suc k) f₀ s u i = rw (visit-listed (references rs) k d s (λ z. e (mark-held i ∙ z)) (λ z. n (mark-held i ∙ z))) i
 
     module _ (e : get_or a.marks d 0 ≡ 0) where
-      one-less : unvisited_in rs a ≡ suc (unvisited_in rs (opening d a))
-      one-less = unvisited-opened (take (length rs) a.marks) d (sym mark-read ∙ e) ∙ ap (λ (x : List ℕ). suc (unvisited_count x)) (sym (take-set-lt (length rs) a.marks d 1 l))
+      one-less : unvisited_count h.state.marks ≡ suc (unvisited_count (set h.state.marks d 1))
+      one-less = unvisited-opened h.state.marks d (sym (mark-held h.held) ∙ e)
+
+      fewer : unvisited_in rs a ≡ suc (unvisited_in rs (opening d a))
+      fewer = rw (h.held.marks_are, (held-open rs h.held l).marks_are) one-less
 
       open-ready : VisitReady rs (opening d a) f 2049 1
       open-ready =
@@ -264,17 +189,16 @@ module _ (rs : List Record) {a : VisitProgress} {f : List ℕ} where
           let s = h.spare in
           record {
             state = opened d h.state;
-            progress₀ = h.progress₀;
             buffer₀ = h.buffer₀;
-            held = held-open rs h.progress₀ h.buffer₀ h.state a f h.held l;
+            held = held-open rs h.held l;
             few = h.few;
-            size = ap length (take-set-lt (length rs) a.marks d 1 l) ∙ length-set (take (length rs) a.marks) d 1 ∙ h.size;
+            size = length-set h.state.marks d 1 ∙ h.size;
             room = omega arith;
             spare = omega arith;
           }
 
       pub call-walk : {t : ℕ} → unvisited_in rs a * 3 ≡ t → (unvisited_in rs (opening d a) * 3 + 2 < t) × VisitReady rs (opening d a) f (length rs - (d + 1)) 0
-      call-walk q = let n = one-less in let w = h.few in (omega arith, relax rs open-ready (omega arith) (omega arith))
+      call-walk q = let n = fewer in let w = h.few in (omega arith, relax rs open-ready (omega arith) (omega arith))
 
       module _ {b : VisitProgress} {g : List ℕ} (w : Walked rs (d + 1) (opening d a) f b g) where
         fields-ready : VisitReady rs (opening d a) f (1 + length (field_references rs (d + 1) (length rs - (d + 1)))) 1
@@ -289,7 +213,7 @@ module _ (rs : List Record) {a : VisitProgress} {f : List ℕ} where
         module _ {q : Reference} (qe : q ≡ own_reference rs d) where
           pub call-own : {t : ℕ} → unvisited_in rs a * 3 ≡ t → (unvisited_in rs b * 3 + 1 < t) × (Within (length rs) q × VisitReady rs b g 1 0)
           call-own y =
-              let n = one-less in
+              let n = fewer in
               let k = walked-falls in
               (omega arith, (rw qe (within-own rs d), relax rs walked-ready (omega arith) (omega arith)))
 
@@ -299,15 +223,16 @@ module _ (rs : List Record) {a : VisitProgress} {f : List ℕ} where
                 let y = after rs 0 walked-ready (taken_up rs q) (visit-grows rs h.few q) v (suc (unvisited_in rs b)) (omega arith) in
                 let p = y.room in
                 let n = y.few in
+                let i = y.held.listed_is in
                 (omega arith, omega arith)
 
             pub ret-new : {a' : VisitProgress} → a' ≡ listing d c → Visited rs (Follow d) a f a' o
-            ret-new p zero a₀ f₀ s u i = absurd (omega arith)
-            ret-new p (suc k) a₀ f₀ s u i =
-                let n = one-less in
+            ret-new p zero f₀ s u i = absurd (omega arith)
+            ret-new p (suc k) f₀ s u i =
+                let n = fewer in
                 let m = walked-falls in
                 rw (p, visit-new rs k d s (sym (mark-held i) ∙ e), ← qe)
-                (held-list rs a₀ f₀ _ c o (v k a₀ f₀ _ (omega arith) (w k a₀ f₀ (opened d s) (omega arith) (held-open rs a₀ f₀ s a f i l))) l)
+                (held-list rs (v k f₀ _ (omega arith) (w k f₀ (opened d s) (omega arith) (held-open rs i l))) l)
 
 -- ---- the loop over the fields
 
@@ -324,7 +249,7 @@ module _ (rs : List Record) {p q : ℕ} {a₀ : VisitProgress} {f₀ : List ℕ}
   -- no field is left
   none-left : field_references rs q (length rs - q) ≡ [] → Walked rs p a₀ f₀ a f
   unfolding walk
-  none-left e = i.rest a f (λ k o₀ g₀ s n h. rw e h)
+  none-left e = i.rest a f (λ k g₀ s n h. rw e h)
 
   pub walk-decl : is_decl (at rs q).kind ≡ true → Walked rs p a₀ f₀ a f
   walk-decl e = none-left (fields-decl rs q (length rs - q) e)
@@ -338,7 +263,7 @@ module _ (rs : List Record) {p q : ℕ} {a₀ : VisitProgress} {f₀ : List ℕ}
     walk-skip r = record {
       ready = relax rs i.ready (omega arith) (omega arith);
       fewer = i.fewer;
-      rest = λ a' f' w. i.rest a' f' (λ k o₀ g₀ s n h. rw (fields-one rs q l e, nowhere rs q r) (w k o₀ g₀ s n h));
+      rest = λ a' f' w. i.rest a' f' (λ k g₀ s n h. rw (fields-one rs q l e, nowhere rs q r) (w k g₀ s n h));
     }
 
     module _ {r : Reference} (re : r ≡ field_reference rs q) where
@@ -354,5 +279,5 @@ module _ (rs : List Record) {p q : ℕ} {a₀ : VisitProgress} {f₀ : List ℕ}
           record {
             ready = after rs (length rs - (q + 1)) h (taken_up rs r) (visit-grows rs i.ready.few r) v (suc (unvisited_in rs a)) (omega arith);
             fewer = omega arith;
-            rest = λ a₂ f₂ w. i.rest a₂ f₂ (λ k o₀ g₀ s u j. rw (fields-one rs q l e, ← re) (w k o₀ g₀ (taken_up rs r k s) (omega arith) (v k o₀ g₀ s u j)));
+            rest = λ a₂ f₂ w. i.rest a₂ f₂ (λ k g₀ s u j. rw (fields-one rs q l e, ← re) (w k g₀ (taken_up rs r k s) (omega arith) (v k g₀ s u j)));
           }

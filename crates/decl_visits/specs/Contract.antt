@@ -1,5 +1,6 @@
 -- What the contracts of the visits say: which state the progress and the fault buffer hold.
-use Rattle.std.specs.Prelude.{◌≡◌, List, [], ◌∷◌, map, ℕ, zero, suc, ◌+◌, ◌*◌, ◌-◌, ◌^◌, ◌<◌, ◌≤◌, length, take, drop, set, replicate}
+use Rattle.std.specs.Prelude.{◌≡◌, List, map, ℕ, ◌+◌, ◌*◌, ◌-◌, ◌^◌, ◌<◌, ◌≤◌, length, take, drop, set, replicate, eqb}
+use Rattle.std.specs.List.{count_by}
 use Rattle.std.proofs.lemmas.List.Edits.{sets}
 use Rattle.rules.specs.Table.{at}
 use Rattle.rules.specs.Faults.{single, log}
@@ -11,13 +12,10 @@ use Rattle.rules.specs.declared.Reference.TheVariants.{Nowhere, Wrong, Follow}
 use Rattle.faults.specs.Notes.{no_faults, noted, noted_all}
 use Rattle.decl_visits.specs.declared.VisitProgress.{VisitProgress}
 
--- how many marks are of places not visited yet
+-- how many marks are of places not visited yet, and how many are of those of the table
 unfoldable pub unvisited_count : List ℕ → ℕ
-unvisited_count [] = zero
-unvisited_count (zero ∷ l) = suc (unvisited_count l)
-unvisited_count (suc m ∷ l) = unvisited_count l
+unvisited_count l = count_by (λ m. eqb m 0) l
 
--- of the places of the table
 abbrev pub unvisited_in : List Record → VisitProgress → ℕ
 unvisited_in rs a = unvisited_count (take (length rs) a.marks)
 
@@ -36,24 +34,23 @@ pub record Noted (rs : List Record) (a : VisitProgress) (buffer : List ℕ) (c p
   pub listed : a'.listed ≡ a.listed
   pub faults : log a'.tally buffer' ≡ noted (log a.tally buffer) (single c (at rs p))
 
--- the progress and the fault buffer hold the state s; they were a₀ and f₀
-pub record StateHeld (rs : List Record) (a₀ : VisitProgress) (f₀ : List ℕ) (s : State) (a : VisitProgress) (buffer : List ℕ) : Type 0 where
+-- the progress and the fault buffer hold the state s; the buffer was f₀
+pub record StateHeld (rs : List Record) (f₀ : List ℕ) (s : State) (a : VisitProgress) (buffer : List ℕ) : Type 0 where
   pub marks_are : take (length rs) a.marks ≡ s.marks
-  pub marks_rest : drop (length rs) a.marks ≡ drop (length rs) a₀.marks
-  pub places_are : a.places ≡ sets a₀.places 0 s.order
+  pub marks_rest : drop (length rs) a.marks ≡ drop (length rs) started.marks
+  pub places_are : a.places ≡ sets started.places 0 s.order
   pub listed_is : a.listed ≡ length s.order
   pub faults_are : log a.tally buffer ≡ noted_all (log no_faults f₀) (map (fault_of rs) s.faults)
 
 -- they hold some state, with room for x more faults and y more places than the unvisited ones bring
 pub record VisitReady (rs : List Record) (a : VisitProgress) (buffer : List ℕ) (x y : ℕ) : Type 0 where
   pub state : State
-  pub progress₀ : VisitProgress
   pub buffer₀ : List ℕ
-  pub held : StateHeld rs progress₀ buffer₀ state a buffer
+  pub held : StateHeld rs buffer₀ state a buffer
   pub few : length rs ≤ 1600
-  pub size : length (take (length rs) a.marks) ≡ length rs
-  pub room : a.listed + unvisited_in rs a + y ≤ 1600
-  pub spare : a.tally.total + unvisited_in rs a * 2048 + x < 2 ^ 63
+  pub size : length state.marks ≡ length rs
+  pub room : length state.order + unvisited_count state.marks + y ≤ 1600
+  pub spare : length state.faults + unvisited_count state.marks * 2048 + x < 2 ^ 63
 
 -- a declaration to visit stands below n
 abbrev pub Within : ℕ → Reference → Type 0
@@ -64,7 +61,7 @@ Within n (Follow d) = d < n
 -- whatever state they held, they now hold what the step g makes of it, where visits may go k declarations deep
 abbrev pub Steps : List Record → (ℕ → State → State) → VisitProgress → List ℕ → VisitProgress → List ℕ → Type 0
 Steps rs g a buffer a' buffer' =
-    (k : ℕ) (a₀ : VisitProgress) (f₀ : List ℕ) (s : State) → unvisited_in rs a < k → StateHeld rs a₀ f₀ s a buffer → StateHeld rs a₀ f₀ (g k s) a' buffer'
+    (k : ℕ) (f₀ : List ℕ) (s : State) → unvisited_in rs a < k → StateHeld rs f₀ s a buffer → StateHeld rs f₀ (g k s) a' buffer'
 
 -- the reference r is taken up, and the references of the fields from p on
 abbrev pub taken_up : List Record → Reference → ℕ → State → State

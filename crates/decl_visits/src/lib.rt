@@ -122,7 +122,7 @@ fn walk(names: &Names, place: usize, progress: &mut VisitProgress, buffer: &mut 
 // Takes up what each declaration refers to, in table order; no other record does. The first listed places are then the order.
 pub fn visit_all(names: &Names, progress: &mut VisitProgress, buffer: &mut [u8])
     requires { (length names.now.table.now ≤ 1600) × (progress.old ≡ started) }
-    ensures { StateHeld names.now.table.now started buffer.old (visited names.now.table.now) progress.new buffer.new }
+    ensures { StateHeld names.now.table.now buffer.old (visited names.now.table.now) progress.new buffer.new }
 {
     for p in 0..names.table.len() {
         if !kinds::is_decl(names.table[p].kind) {

@@ -1,7 +1,7 @@
 -- The cycle of calls of `decl_visits::visit`, `decl_visits::take_up` and `decl_visits::walk` meets its contracts; the laws are in VisitReady. Assumes nothing.
 use Rattle.std.proofs.Common.{sym, arith}
 use Rattle.rules.specs.Table.{at}
-use Rattle.decl_visits.proofs.VisitReady.{call-walk, call-own, call-list, ret-new, ret-open, ret-listed, ret-follow, ret-wrong, walk-start, walk-decl, walk-past, walk-skip, walk-call, walk-turn}
+use Rattle.decl_visits.proofs.VisitReady.{call-walk, call-own, call-list, ret-new, ret-open, ret-listed, ret-follow, ret-wrong, note-fits, walk-start, walk-decl, walk-past, walk-skip, walk-call, walk-turn}
 use Rattle.decl_visits.proofs.+visit_walk.Goals as goal
 
 pub take_up-returns-in-Follow : goal.take_up-returns-in-Follow
@@ -9,6 +9,12 @@ take_up-returns-in-Follow t c = ret-follow _ c.in-Follow.is c.visit.ensures
 
 pub take_up-returns-in-Wrong : goal.take_up-returns-in-Wrong
 take_up-returns-in-Wrong t c = ret-wrong _ c.in-Wrong.is c.note.ensures
+
+pub take_up-note-requires : goal.take_up-note-requires
+take_up-note-requires t c = note-fits _ c.requires.1
+
+pub visit-note-requires : goal.visit-note-requires
+visit-note-requires t c = note-fits _ c.requires.1
 
 pub visit-walk-requires : goal.visit-walk-requires
 visit-walk-requires t c = call-walk _ c.requires.0 c.requires.1 c.if-m-eq-UNVISITED.true c.decreases

@@ -5,7 +5,7 @@ use Rattle.rules.specs.Table.{at}
 use Rattle.decl_visits.proofs.visit_all.Goals as goal
 
 pub loop-p-init : goal.loop-p-init
-loop-p-init c = loop-start _ _ _ c.requires.0 c.requires.1
+loop-p-init c = rw c.requires.1 (loop-start _ _ c.requires.0)
 
 pub loop-p-preserved-then-not-is_decl : goal.loop-p-preserved-then-not-is_decl
 unfolding at
@@ -19,4 +19,4 @@ loop-p-preserved c =
     loop-turn _ c.loop-p.invariant (omega arith) c.root_reference-r.ensures _ _ c.take_up.ensures
 
 pub returns : goal.returns
-returns c = loop-end _ c.loop-p.invariant c.requires.1 (omega arith)
+returns c = loop-end _ c.loop-p.invariant (omega arith)
