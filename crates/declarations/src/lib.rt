@@ -3,7 +3,7 @@
 
 pub mod starts;
 
-ghost use Rattle.std.specs.Prelude.{◌≡◌, ◌%◌, IfSome, get_or};
+ghost use Rattle.std.specs.Prelude.{◌≡◌, ◌%◌, ◌≤◌, get_or, length, replicate};
 ghost use Rattle.rules.specs.Table.{at};
 ghost use Rattle.rules.specs.Places.{nearest, holds_at, decl_named};
 ghost use Rattle.rules.specs.declared.Target.TheVariants.{DeclNamed};
@@ -11,7 +11,7 @@ ghost use Rattle.declarations.specs.Starts.{Starts};
 ghost use Rattle.std.proofs.Props.{props};
 
 use rules::{Record, Target};
-use table::{DIVISOR, REMAINDERS};
+use table::DIVISOR;
 
 // A table, with places where the searches for the names of its declarations may start, by the remainders of the names.
 #[derive(Clone, Copy)]
@@ -22,15 +22,20 @@ pub struct Names<'a> {
 }
 
 impl<'a> Names<'a> {
-    // With the starts that are known of the table, if any.
-    pub fn new(table: &'a [Record], starts: &'a Option<[u16; REMAINDERS]>) -> Self
-        requires { IfSome starts.now (λ s. Starts table.now s) }
+    // Without starts: every search starts at place 0.
+    pub fn new(table: &'a [Record]) -> Self
         ensures { result.table ≡ table.entry }
     {
-        match starts {
-            Some(s) => Names { table, starts: s },
-            None => Names { table, starts: &[] },
-        }
+        Names { table, starts: &[] }
+    }
+
+    // With starts, which it fills. They are lent: an Option of the array, made where the table is large, would be cleared where it is not.
+    pub fn with_starts(table: &'a [Record], starts: &'a mut [u16]) -> Self
+        requires { (length table.now ≤ 1600) × (starts.old ≡ replicate 4093 65535) }
+        ensures { result.table ≡ table.entry }
+    {
+        starts::fill(table, starts);
+        Names { table, starts }
     }
 
     // The start for a name: place 0 where none is known.

@@ -1,10 +1,10 @@
 // Where the search for the declaration of a name may start, so that few records are looked at.
-ghost use Rattle.std.specs.Prelude.{◌≡◌, true, ◌+◌, ◌<◌, ◌≤◌, IfSome, length, replicate};
+ghost use Rattle.std.specs.Prelude.{◌≡◌, true, ◌+◌, ◌<◌, ◌≤◌, length, replicate};
 ghost use Rattle.declarations.specs.Starts.{StartsFrom, Starts};
 
 use rules::Record;
 use rules::limits::MOST_RECORDS;
-use table::{DIVISOR, FEW_RECORDS, NO_PLACE, REMAINDERS};
+use table::{DIVISOR, FEW_RECORDS};
 
 // Whether the table has so many records that arrays by remainder spare time, and not too many for their places.
 pub fn is_large(table: &[Record]) -> bool
@@ -33,16 +33,4 @@ pub fn fill(table: &[Record], starts: &mut [u16])
     for place in (0..table.len()).rev() {
         set_start(table, place, starts);
     }
-}
-
-// The starts, where the table is so large that they spare time.
-pub fn known(table: &[Record]) -> Option<[u16; REMAINDERS]>
-    ensures { IfSome result (λ s. Starts table.now s) }
-{
-    if !is_large(table) {
-        return None;
-    }
-    let mut starts = [NO_PLACE; REMAINDERS];
-    fill(table, &mut starts);
-    Some(starts)
 }
