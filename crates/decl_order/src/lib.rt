@@ -7,7 +7,9 @@ ghost use Rattle.decl_order.specs.Contract.{Placed, DeclIdentifiersChecked};
 
 use decl_visits::VisitProgress;
 use declarations::Names;
+use declarations::starts::is_large;
 use rules::{Record, Tally};
+use table::{NO_PLACE, REMAINDERS};
 
 // Copies the records of the declarations at these places to the start of out. Returns how many records they are.
 fn copy_listed(table: &[Record], places: &[u16], out: &mut [Record]) -> usize
@@ -47,7 +49,10 @@ pub fn check_decl_identifiers(
     requires { (length table.now ≤ 1600) × (length table.now ≤ length out.old) }
     ensures { DeclIdentifiersChecked table.now buffer.old out.old buffer.new out.new result }
 {
-    let starts = declarations::starts::known(table);
-    let names = Names::new(table, &starts);
+    if !is_large(table) {
+        return order_from(&Names::new(table), buffer, out);
+    }
+    let mut starts = [NO_PLACE; REMAINDERS];
+    let names = Names::with_starts(table, &mut starts);
     order_from(&names, buffer, out)
 }

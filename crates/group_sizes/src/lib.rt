@@ -2,7 +2,7 @@
 #![tactic(auto)]
 
 pub mod members;
-mod targets;
+pub mod targets;
 
 ghost use Rattle.std.specs.Prelude.{◌≡◌, ◌+◌, ◌<◌, ◌≤◌, min, length, get_or};
 ghost use Rattle.rules.specs.Kinds.{group_field};
@@ -83,7 +83,7 @@ fn size_after(table: &[Record], targets: &[u16], sizes: &[u16], decl: usize) -> 
 const TOO_MANY: usize = MOST_RECORDS + 1;
 
 // Writes the sizes of the declarations, in the order of the table: each group stands before what holds a field of it.
-fn measure(table: &[Record], targets: &[u16], sizes: &mut [u16])
+pub fn measure(table: &[Record], targets: &[u16], sizes: &mut [u16])
     requires table_len_bound { (length table.now ≤ 1600) × TargetsKnown table.now targets.now (length table.now) × (length table.now ≤ length sizes.old) }
     requires groups_first { GroupsFirst table.now }
     ensures { Sized table.now targets.now sizes.new (length table.now) }

@@ -4,7 +4,9 @@ ghost use Rattle.group_sizes.specs.GroupsFirst.{GroupsFirst};
 ghost use Rattle.group_sizes.specs.Targets.{TargetsKnown};
 
 use declarations::Names;
+use declarations::starts::is_large;
 use rules::Record;
+use table::{NO_PLACE, REMAINDERS};
 
 // The place of the first group field, or the end of the table: below it any targets are right.
 fn first_group_field(table: &[Record]) -> usize
@@ -41,6 +43,11 @@ pub fn fill(table: &[Record], targets: &mut [u16])
     if first == table.len() {
         return;
     }
-    let starts = declarations::starts::known(table);
-    fill_from(&Names::new(table, &starts), first, targets);
+    if !is_large(table) {
+        fill_from(&Names::new(table), first, targets);
+        return;
+    }
+    let mut starts = [NO_PLACE; REMAINDERS];
+    let names = Names::with_starts(table, &mut starts);
+    fill_from(&names, first, targets);
 }
