@@ -5,6 +5,7 @@ ghost use Rattle.std.specs.Prelude.{◌≡◌};
 ghost use Rattle.rules.specs.Widths.{bit_width, scalar_max};
 
 // Return the bit-width of a scalar value.
+#[tactic(auto, using(crate::proofs::Laws::zeros))]
 pub fn bit_width(value: u64) -> u64
     ensures { result ≡ bit_width value }
 {
@@ -12,6 +13,7 @@ pub fn bit_width(value: u64) -> u64
 }
 
 // Return the maximum value for a scalar value.
+#[tactic(auto, using(crate::proofs::Laws::shifted), unfolding(rules::specs::Widths::scalar_max))]
 pub fn scalar_max(width: u64) -> u64
     ensures { result ≡ scalar_max width }
 {
