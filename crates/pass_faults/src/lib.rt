@@ -1,7 +1,7 @@
-// All faults of each pass but 2, place by place.
+// All faults of each pass but 2 and 4, place by place. A small table goes without arrays: to fill them would take longer than they spare.
 #![tactic(auto)]
 
-ghost use Rattle.std.specs.Prelude.{◌≡◌, ℕ, List, [], IfSome, MatchOption, length};
+ghost use Rattle.std.specs.Prelude.{◌≡◌, ℕ, List, length};
 ghost use Rattle.rules.specs.Places.{each};
 ghost use Rattle.rules.specs.declared.Fault.{Fault};
 ghost use Rattle.rules.specs.Faults.{log, logged};
@@ -13,6 +13,9 @@ ghost use Rattle.rules.specs.PayloadFields.{pass7};
 ghost use Rattle.rules.specs.ArrayFields.{pass8};
 ghost use Rattle.rules.specs.PaddingFields.{pass9};
 ghost use Rattle.repeats.specs.Marks.{Marked};
+ghost use Rattle.repeats.specs.declared.marks.Compared.TheVariants.{Sizes, ElementSizes};
+ghost use Rattle.size_fields.specs.SizeStarts.{SizeStarts};
+ghost use Rattle.payload_fields.specs.Parents.{Parents};
 ghost use Rattle.pass_faults.specs.Listed.{is_among, Lists};
 
 use declarations::Names;
@@ -21,6 +24,7 @@ use faults::notes::note_found;
 use repeats::marks::Compared;
 use rules::limits::MOST_RECORDS;
 use rules::{Fault, Record, Tally};
+use table::{NO_PLACE, REMAINDERS};
 
 // Whether the bit of this kind is set.
 #[tactic(auto, unfolding(crate::specs::Listed::is_among))]
@@ -51,58 +55,59 @@ fn run_places<F: Fn(usize) -> (Option<Fault>, Option<Fault>)>(
     tally
 }
 
-// The marks of the records that may repeat an earlier one, where the table is so large that they spare time.
-fn known_marks(table: &[Record], what: Compared) -> Option<[bool; MOST_RECORDS]>
-    ensures { IfSome result (λ marks. Marked table.now what marks) }
+// Pass 1, by what is known of the names.
+fn scopes(names: &Names, buffer: &mut [u8]) -> Tally
+    ensures { log result buffer.new ≡ logged buffer.old (pass1 names.now.table.now) }
 {
-    if !is_large(table) {
-        return None;
-    }
-    let mut marks = [true; MOST_RECORDS];
-    repeats::marks::mark(table, what, &mut marks);
-    Some(marks)
+    run_places(
+        names.table,
+        kinds::NAMED_DECLS,
+        |place| (scope::at_place(names, place), None),
+        buffer,
+    )
 }
 
-// What is known, as a slice: an empty one where nothing is.
-fn as_slice<T, const N: usize>(known: &Option<[T; N]>) -> &[T]
-    ensures { MatchOption known.now (result.now ≡ []) (λ a. result.now ≡ a) }
-{
-    match known {
-        Some(a) => a,
-        None => &[],
-    }
-}
-
-// Pass 1.
 pub fn check_scopes(table: &[Record], buffer: &mut [u8]) -> Tally
     ensures { log result buffer.new ≡ logged buffer.old (pass1 table.now) }
 {
-    let starts = declarations::starts::known(table);
-    let names = Names::new(table, &starts);
-    run_places(
-        table,
-        kinds::NAMED_DECLS,
-        |place| (scope::at_place(&names, place), None),
-        buffer,
-    )
+    if !is_large(table) {
+        return scopes(&Names::new(table), buffer);
+    }
+    let mut starts = [NO_PLACE; REMAINDERS];
+    scopes(&Names::with_starts(table, &mut starts), buffer)
+}
+
+// The marks of the records that may repeat an earlier one.
+fn marks(table: &[Record], what: Compared) -> [bool; MOST_RECORDS]
+    ensures { Marked table.now what result }
+{
+    let mut marks = [true; MOST_RECORDS];
+    repeats::marks::mark(table, what, &mut marks);
+    marks
 }
 
 // Pass 3.
 pub fn check_field_identifiers(table: &[Record], buffer: &mut [u8]) -> Tally
     ensures { log result buffer.new ≡ logged buffer.old (pass3 table.now) }
 {
-    let marks = known_marks(table, Compared::FieldNames);
-    field_identifiers::check_field_identifiers(table, as_slice(&marks), buffer)
+    if !is_large(table) {
+        return field_identifiers::check_field_identifiers(table, &[], buffer);
+    }
+    let marks = marks(table, Compared::FieldNames);
+    field_identifiers::check_field_identifiers(table, &marks, buffer)
 }
 
-// Pass 5.
-pub fn check_size_fields(table: &[Record], buffer: &mut [u8]) -> Tally
+// Pass 5, where `sizes` and `elements` say which sizes may repeat a name, and `starts` where to search for what they name.
+fn sizes(
+    table: &[Record],
+    sizes: &[bool],
+    elements: &[bool],
+    starts: &[u16],
+    buffer: &mut [u8],
+) -> Tally
+    requires { Marked table.now Sizes sizes.now × Marked table.now ElementSizes elements.now × SizeStarts table.now starts.now }
     ensures { log result buffer.new ≡ logged buffer.old (pass5 table.now) }
 {
-    let sizes = known_marks(table, Compared::Sizes);
-    let elements = known_marks(table, Compared::ElementSizes);
-    let starts = size_fields::starts::known(table);
-    let (sizes, elements, starts) = (as_slice(&sizes), as_slice(&elements), as_slice(&starts));
     run_places(
         table,
         kinds::SIZES,
@@ -116,32 +121,63 @@ pub fn check_size_fields(table: &[Record], buffer: &mut [u8]) -> Tally
     )
 }
 
-// Pass 6.
-pub fn check_fixed_fields(table: &[Record], buffer: &mut [u8]) -> Tally
-    ensures { log result buffer.new ≡ logged buffer.old (pass6 table.now) }
+pub fn check_size_fields(table: &[Record], buffer: &mut [u8]) -> Tally
+    ensures { log result buffer.new ≡ logged buffer.old (pass5 table.now) }
 {
-    let starts = declarations::starts::known(table);
-    let names = Names::new(table, &starts);
+    if !is_large(table) {
+        return sizes(table, &[], &[], &[], buffer);
+    }
+    let repeated = marks(table, Compared::Sizes);
+    let elements = marks(table, Compared::ElementSizes);
+    let mut starts = [NO_PLACE; MOST_RECORDS];
+    size_fields::starts::fill(table, &mut starts);
+    sizes(table, &repeated, &elements, &starts, buffer)
+}
+
+// Pass 6, by what is known of the names.
+fn fixed_values(names: &Names, buffer: &mut [u8]) -> Tally
+    ensures { log result buffer.new ≡ logged buffer.old (pass6 names.now.table.now) }
+{
     run_places(
-        table,
+        names.table,
         kinds::FIXED_FIELDS,
-        |place| (fixed_fields::at_place(&names, place), None),
+        |place| (fixed_fields::at_place(names, place), None),
         buffer,
     )
 }
 
-// Pass 7.
-pub fn check_payload_fields(table: &[Record], buffer: &mut [u8]) -> Tally
+pub fn check_fixed_fields(table: &[Record], buffer: &mut [u8]) -> Tally
+    ensures { log result buffer.new ≡ logged buffer.old (pass6 table.now) }
+{
+    if !is_large(table) {
+        return fixed_values(&Names::new(table), buffer);
+    }
+    let mut starts = [NO_PLACE; REMAINDERS];
+    fixed_values(&Names::with_starts(table, &mut starts), buffer)
+}
+
+// Pass 7, where `parents` says which names a child with a field may give for its parent.
+fn payloads(table: &[Record], parents: &[bool], buffer: &mut [u8]) -> Tally
+    requires { Parents table.now parents.now }
     ensures { log result buffer.new ≡ logged buffer.old (pass7 table.now) }
 {
-    let parents = payload_fields::parents::known(table);
-    let parents = as_slice(&parents);
     run_places(
         table,
         kinds::PAYLOADS_AND_NAMED_DECLS,
         |place| (payload_fields::at_place(table, parents, place), None),
         buffer,
     )
+}
+
+pub fn check_payload_fields(table: &[Record], buffer: &mut [u8]) -> Tally
+    ensures { log result buffer.new ≡ logged buffer.old (pass7 table.now) }
+{
+    if !is_large(table) {
+        return payloads(table, &[], buffer);
+    }
+    let mut parents = [false; REMAINDERS];
+    payload_fields::parents::mark_parents(table, &mut parents);
+    payloads(table, &parents, buffer)
 }
 
 // Pass 8.

@@ -1,14 +1,13 @@
 // Marks of the names that children with a field give for their parent, by the remainders of the names.
-ghost use Rattle.std.specs.Prelude.{◌≡◌, IfSome, length};
+ghost use Rattle.std.specs.Prelude.{◌≡◌, length};
 ghost use Rattle.payload_fields.specs.Parents.{Parents};
 
-use declarations::starts::is_large;
 use rules::{Record, Target};
 use search::members::has_member;
-use table::{DIVISOR, REMAINDERS};
+use table::DIVISOR;
 
-// Marks the parents' names of the declarations that have a field.
-fn mark(table: &[Record], parents: &mut [bool])
+// Marks the parents' names of the declarations that have a field, so that other declarations need no search for a child.
+pub fn mark_parents(table: &[Record], parents: &mut [bool])
     requires { length parents.old ≡ 4093 }
     ensures { Parents table.now parents.new }
 {
@@ -17,16 +16,4 @@ fn mark(table: &[Record], parents: &mut [bool])
             parents[usize::from(r.second % DIVISOR)] = true;
         }
     }
-}
-
-// The marks, where the table is so large that they spare time: other declarations need no search for a child.
-pub fn known(table: &[Record]) -> Option<[bool; REMAINDERS]>
-    ensures { IfSome result (λ parents. Parents table.now parents) }
-{
-    if !is_large(table) {
-        return None;
-    }
-    let mut parents = [false; REMAINDERS];
-    mark(table, &mut parents);
-    Some(parents)
 }

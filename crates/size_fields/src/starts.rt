@@ -1,10 +1,9 @@
 // Where pass 5's search for what a Size, Count or ElementSize names may start, so that few records are looked at.
-ghost use Rattle.std.specs.Prelude.{◌≡◌, ◌+◌, ◌<◌, ◌≤◌, true, IfSome, length};
+ghost use Rattle.std.specs.Prelude.{◌≡◌, ◌+◌, ◌<◌, ◌≤◌, true, length};
 ghost use Rattle.rules.specs.Kinds.{is_decl};
 ghost use Rattle.rules.specs.Table.{at};
 ghost use Rattle.size_fields.specs.SizeStarts.{SizeStarts, name_of, start_for, KeptPlaces};
 
-use declarations::starts::is_large;
 use kinds::{is_decl, is_size};
 use rules::Record;
 use rules::limits::MOST_RECORDS;
@@ -64,7 +63,7 @@ impl Kept {
 }
 
 // Fills `starts`, in which no start is known at first: all places of the table, from the last to the first.
-fn fill(table: &[Record], starts: &mut [u16; MOST_RECORDS])
+pub fn fill(table: &[Record], starts: &mut [u16; MOST_RECORDS])
     requires { (length table.now ≤ 1600) × SizeStarts table.now starts.old }
     ensures { SizeStarts table.now starts.new }
 {
@@ -76,16 +75,4 @@ fn fill(table: &[Record], starts: &mut [u16; MOST_RECORDS])
     for place in (0..n).rev() {
         kept.step(table, place, starts);
     }
-}
-
-// The starts, where the table is so large that they spare time.
-pub fn known(table: &[Record]) -> Option<[u16; MOST_RECORDS]>
-    ensures { IfSome result (λ starts. SizeStarts table.now starts) }
-{
-    if !is_large(table) {
-        return None;
-    }
-    let mut starts = [NO_PLACE; MOST_RECORDS];
-    fill(table, &mut starts);
-    Some(starts)
 }

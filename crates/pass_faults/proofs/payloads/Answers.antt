@@ -1,4 +1,4 @@
--- `pass_faults::check_payload_fields` meets its contract. Assumes nothing.
+-- `pass_faults::payloads` meets its contract. Assumes nothing.
 use Rattle.std.proofs.Common.{rules, arith, refl, ◌||◌}
 use Rattle.std.proofs.lemmas.Grind.{common_steps}
 use Rattle.rules.specs.Kinds.{is_payload, is_named_decl}
@@ -6,7 +6,7 @@ use Rattle.rules.specs.Places.{first}
 use Rattle.rules.specs.PayloadFields.{pass7_at, pass7}
 use Rattle.pass_faults.specs.Listed.{is_among}
 use Rattle.pass_faults.proofs.Laws.{lists, only_first}
-use Rattle.pass_faults.proofs.check_payload_fields.Goals as goal
+use Rattle.pass_faults.proofs.payloads.Goals as goal
 
 pub returns : goal.returns
 unfolding pass7 pass7_at first is_among

@@ -1,4 +1,4 @@
--- `payload_fields::parents::mark` meets its contract. Assumes nothing.
+-- `payload_fields::parents::mark_parents` meets its contract. Assumes nothing.
 use Rattle.std.proofs.Common.{ℕ, ◌≡◌, ◌+◌, ◌%◌, ◌∙◌, arith, List, Bool, true, false, ◌&&◌, length, set, mod-lt}
 use Rattle.std.proofs.lemmas.Grind.{common_steps}
 use Rattle.rules.specs.Kinds.{is_packet_or_struct}
@@ -6,8 +6,8 @@ use Rattle.rules.specs.Table.{at}
 use Rattle.rules.specs.PayloadFields.{has_field}
 use Rattle.rules.specs.declared.Record.{Record}
 use Rattle.payload_fields.specs.Parents.{NoChildWithField}
-use Rattle.payload_fields.proofs.parents.mark.Goals as goal
-use Rattle.payload_fields.proofs.parents.mark.Goals.{then-is_packet_or_struct+then-has_member, else-is_packet_or_struct, else-is_packet_or_struct-via-then-is_packet_or_struct+else-has_member, else-is_packet_or_struct-via-else-is_packet_or_struct}
+use Rattle.payload_fields.proofs.parents.mark_parents.Goals as goal
+use Rattle.payload_fields.proofs.parents.mark_parents.Goals.{then-is_packet_or_struct+then-has_member, else-is_packet_or_struct, else-is_packet_or_struct-via-then-is_packet_or_struct+else-has_member, else-is_packet_or_struct-via-else-is_packet_or_struct}
 
 module _ (rs : List Record) (marks : List Bool) (n : ℕ) (w : NoChildWithField rs marks n) where
   no-child : is_packet_or_struct (at rs n).kind && has_field rs n ≡ false → NoChildWithField rs marks (n + 1)
