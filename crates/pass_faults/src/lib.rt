@@ -70,6 +70,7 @@ fn scopes(names: &Names, buffer: &mut [u8]) -> Tally
 pub fn check_scopes(table: &[Record], buffer: &mut [u8]) -> Tally
     ensures { log result buffer.new ≡ logged buffer.old (pass1 table.now) }
 {
+    // A local array is cleared only in a large table. An Option of it is cleared where it is None, too: 2.4 microseconds for 7 records, not 1.2.
     if !is_large(table) {
         return scopes(&Names::new(table), buffer);
     }

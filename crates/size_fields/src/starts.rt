@@ -6,7 +6,6 @@ ghost use Rattle.size_fields.specs.SizeStarts.{SizeStarts, name_of, start_for, K
 
 use kinds::{is_decl, is_size};
 use rules::Record;
-use rules::limits::MOST_RECORDS;
 use table::{BODY_NAME, DIVISOR, NO_PLACE, PAYLOAD_NAME, REMAINDERS};
 
 // The only name by which a size can mean the record.
@@ -37,8 +36,8 @@ impl Kept {
     }
 
     // The starts for the sizes of the declaration at `decl`, up to the next one.
-    fn set_starts(&self, table: &[Record], decl: usize, starts: &mut [u16; MOST_RECORDS])
-        requires { (length table.now ≤ 1600) × (is_decl (at table.now decl).kind ≡ true) × KeptPlaces table.now self.now.last self.now.end (decl + 1) × SizeStarts table.now starts.old }
+    fn set_starts(&self, table: &[Record], decl: usize, starts: &mut [u16])
+        requires { (length table.now ≤ 1600) × (1600 ≤ length starts.old) × (is_decl (at table.now decl).kind ≡ true) × KeptPlaces table.now self.now.last self.now.end (decl + 1) × SizeStarts table.now starts.old }
         ensures { SizeStarts table.now starts.new }
     {
         for q in decl + 1..self.end {
@@ -49,8 +48,8 @@ impl Kept {
     }
 
     // One place more.
-    fn step(&mut self, table: &[Record], place: usize, starts: &mut [u16; MOST_RECORDS])
-        requires { (place < length table.now) × (length table.now ≤ 1600) × KeptPlaces table.now self.old.last self.old.end (place + 1) × SizeStarts table.now starts.old }
+    fn step(&mut self, table: &[Record], place: usize, starts: &mut [u16])
+        requires { (place < length table.now) × (length table.now ≤ 1600) × (1600 ≤ length starts.old) × KeptPlaces table.now self.old.last self.old.end (place + 1) × SizeStarts table.now starts.old }
         ensures { SizeStarts table.now starts.new × KeptPlaces table.now self.new.last self.new.end place }
     {
         if is_decl(table[place].kind) {
@@ -63,8 +62,8 @@ impl Kept {
 }
 
 // Fills `starts`, in which no start is known at first: all places of the table, from the last to the first.
-pub fn fill(table: &[Record], starts: &mut [u16; MOST_RECORDS])
-    requires { (length table.now ≤ 1600) × SizeStarts table.now starts.old }
+pub fn fill(table: &[Record], starts: &mut [u16])
+    requires { (length table.now ≤ 1600) × (1600 ≤ length starts.old) × SizeStarts table.now starts.old }
     ensures { SizeStarts table.now starts.new }
 {
     let n = table.len();
