@@ -1,12 +1,11 @@
 -- Visits of faultless declarations find no fault. Assumes nothing.
-use mathlib.Core.Path.{◌≡◌, refl, sym, ap, subst}
-use mathlib.Core.Logic.{◌⊎◌, inl, inr, ⊎_elim}
-use mathlib.Core.Bool.{Bool, true, false}
+use Rattle.std.proofs.lemmas.Grind.{common_steps}
+use Rattle.std.proofs.lemmas.List.{get_or-set_other, set_past}
+use mathlib.Core.Path.{◌≡◌, refl, sym, subst}
+use mathlib.Core.Logic.{◌⊎◌, ⊎_elim}
 use mathlib.Core.List.{List, [], ◌∷◌, Memᴰ}
 use Prim.Native.Nat.{ℕ, zero, suc}
 use native.Mathlib.Omega.{arith}
-use borrow.Author.Tests.{eqb-true}
-use lib.Dec.{eqb}
 use lib.ListN.{get_or, set, replicate}
 use Rattle.rules.specs.declared.Reference.{Reference}
 use Rattle.rules.specs.declared.Reference.TheVariants.{Nowhere, Wrong, Follow}
@@ -17,19 +16,11 @@ use Rattle.decl_order.proofs.Reachability.{Reaches, one, step, Faultless}
 
 -- a mark that is 1 after a store of 2 was 1, and is another's
 pub mark-listed : (l : List ℕ) (d i : ℕ) → get_or (set l d 2) i 2 ≡ 1 → (¬ (i ≡ d)) × (get_or l i 2 ≡ 1)
-mark-listed [] d i e = absurd (omega arith)
-mark-listed (x ∷ l) zero zero e = absurd (omega arith)
-mark-listed (x ∷ l) zero (suc i) e = (λ z. absurd (omega arith), e)
-mark-listed (x ∷ l) (suc d) zero e = (λ z. absurd (omega arith), e)
-mark-listed (x ∷ l) (suc d) (suc i) e = let h = mark-listed l d i e in (λ z. h.0 (omega arith), h.1)
+mark-listed l d i e = grind (arith, common_steps, get_or-set_other l d i 2 2, set_past l d 2)
 
 -- a mark that is 1 after a store of 1 was 1, or is the one stored
 pub mark-opened : (l : List ℕ) (d i : ℕ) → get_or (set l d 1) i 2 ≡ 1 → (i ≡ d) ⊎ (get_or l i 2 ≡ 1)
-mark-opened [] d i e = inr e
-mark-opened (x ∷ l) zero zero e = inl refl
-mark-opened (x ∷ l) zero (suc i) e = inr e
-mark-opened (x ∷ l) (suc d) zero e = inr e
-mark-opened (x ∷ l) (suc d) (suc i) e = ⊎_elim (λ z. inl (ap suc z)) inr (mark-opened l d i e)
+mark-opened l d i e = grind (arith, common_steps, get_or-set_other l d i 1 2)
 
 -- ---- sequences of references
 
@@ -64,31 +55,16 @@ module _ (f : ℕ → List Reference) (D : ℕ → Type 0)
       let r = walk-clean v h l (λ c p m. q c p (Memᴰ.tail m)) (v x s) (λ y m. ((w y (Memᴰ.tail m)).0, λ e o. (w y (Memᴰ.tail m)).1 e (b.opens e o))) b.none in
       record { none = r.none; opens = λ i o. b.opens i (r.opens i o) }
 
-  enter-clean : (b b' : Bool) (v : ℕ → State → State) → StaysClean v → (d : ℕ) (s : State) → (b' ≡ true → mark_of s d ≡ 1)
-      → D d → ((e : ℕ) → mark_of s e ≡ 1 → Reaches f e d) → s.faults ≡ [] → Clean s (enter b b' v (f d) d s)
-  unfolding enter
-  enter-clean true b' v h d s m dd w z =
-      let r = walk-clean v h (f d) (right d dd) (opened d s)
-      (λ x g. (closed d x dd g, λ e o. ⊎_elim (λ q. subst (λ y. Reaches f y x) (sym q) (one g)) (λ q. reaches-on (w e q) g) (mark-opened s.marks d e o))) z in
-      record {
-        none = r.none;
-        opens = λ i o.
-            let q = mark-listed (walk v (f d) (opened d s)).marks d i o in
-            ⊎_elim (λ y. absurd (q.0 y)) (λ y. y) (mark-opened s.marks d i (r.opens i q.1));
-      }
-  enter-clean false true v h d s m dd w z = absurd (acyclic d dd (w d (m refl)))
-  enter-clean false false v h d s m dd w z = record { none = z; opens = λ i o. o }
-
   visit-clean : (k : ℕ) → StaysClean (visit k f)
-  unfolding visit
+  unfolding visit enter
   visit-clean zero d s dd w z = record { none = z; opens = λ i o. o }
   visit-clean (suc k) d s dd w z =
-      enter-clean (eqb (mark_of s d) 0) (eqb (mark_of s d) 1) (visit k f) (visit-clean k) d s (eqb-true (mark_of s d) 1) dd w z
+      let r = walk-clean (visit k f) (visit-clean k) (f d) (right d dd) (opened d s)
+      (λ x g. (closed d x dd g, λ e o. ⊎_elim (λ q. subst (λ y. Reaches f y x) (sym q) (one g)) (λ q. reaches-on (w e q) g) (mark-opened s.marks d e o))) z in
+      grind (arith, common_steps, r, w d, acyclic d dd, mark-listed (walk (visit k f) (f d) (opened d s)).marks d, mark-opened s.marks d)
 
 no-open : (n i : ℕ) → get_or {A = ℕ} (replicate n 0) i 2 ≡ 1 → ⊥
-no-open zero i e = omega arith
-no-open (suc n) zero e = omega arith
-no-open (suc n) (suc i) e = no-open n i e
+no-open n i e = grind (arith, common_steps)
 
 pub accepted : (n : ℕ) (f : ℕ → List Reference) (roots : List Reference) → ((d e : ℕ) → Memᴰ (Follow d) roots → Memᴰ (Follow e) (f d) → Memᴰ (Follow e) roots)
     → Faultless f roots → (visit_all n f roots).faults ≡ []

@@ -1,16 +1,16 @@
 -- What the visits leave, and the copy after them: the pass whole. Assumes nothing.
-use mathlib.Core.Path.{◌≡◌, refl, sym, ◌∙◌, ap, subst}
-use mathlib.Core.List.{List, [], ◌∷◌, ◌++◌, map, Memᴰ}
+use Rattle.std.proofs.lemmas.Grind.{common_steps}
+use Rattle.std.proofs.lemmas.List.{nil_from_length}
+use mathlib.Core.Path.{◌≡◌, refl, ◌∙◌, ap, subst}
+use mathlib.Core.List.{List, ◌++◌, map, Memᴰ}
 use Prim.Native.Nat.{ℕ, ◌<◌, ◌≤◌}
 use native.Mathlib.Omega.{arith}
 use native.Mathlib.Nat.{zero-add}
 use lib.ListN.{length, take, drop}
-use lib.Seq.{take_at, drop_at}
-use Rattle.rules.specs.Faults.{Log, log, logged}
+use Rattle.rules.specs.Faults.{log, logged}
 use Rattle.rules.specs.DeclIdentifiers.{visited, fault_of, pass2, order, ordered, all_records}
 use Rattle.rules.specs.Ordering.{Accepts}
 use Rattle.rules.specs.declared.Record.{Record}
-use Rattle.rules.specs.declared.Fault.{Fault}
 use Rattle.faults.specs.Notes.{no_faults}
 use Rattle.faults.proofs.Laws.{noted-logged, total-after, logged_none}
 use Rattle.decl_visits.specs.declared.VisitProgress.{VisitProgress}
@@ -20,13 +20,6 @@ use Rattle.decl_visits.proofs.Loop.{order-read, order-short}
 use Rattle.decl_order.specs.Contract.{Placed, DeclIdentifiersChecked}
 use Rattle.decl_order.proofs.Promise.{listed-declared}
 use Rattle.decl_order.proofs.Room.{ordered-short}
-
-none_found : (fs : List Fault) → length fs ≡ 0 → fs ≡ []
-none_found [] e = refl
-none_found (f ∷ fs) e = absurd (omega arith)
-
-some-found : (fs : List Fault) → 0 < length fs → fs ≡ [] → ⊥
-some-found fs l e = let z = ap length e in omega arith
 
 -- what the visits leave
 module _ (rs : List Record) {f₀ f : List ℕ} {a : VisitProgress} (h : StateHeld rs f₀ (visited rs) a f) where
@@ -39,17 +32,15 @@ module _ (rs : List Record) {f₀ f : List ℕ} {a : VisitProgress} (h : StateHe
   total-is = total-after no_faults f₀ (map (fault_of rs) (visited rs).faults) h.faults_are ∙ zero-add (length (pass2 rs))
 
   pub ret-faulty : (out : List Record) → 0 < a.tally.total → DeclIdentifiersChecked rs f₀ out f out (Err a.tally)
-  ret-faulty out l = ((λ e. some-found (pass2 rs) (omega (arith, total-is)) e), faults-logged, refl)
+  ret-faulty out l = ((λ e. let n = ap length e in absurd (omega (arith, total-is))), faults-logged, refl)
 
   module _ (z : a.tally.total ≤ 0) (few : length rs ≤ 1600) where
     accepts : Accepts rs
-    accepts = none_found (pass2 rs) (omega (arith, total-is))
+    accepts = nil_from_length (pass2 rs) (omega (arith, total-is))
 
     -- no fault is kept, and none found
     clean-logged : log no_faults f ≡ logged f₀ (pass2 rs)
-    clean-logged =
-        let e = logged_none f₀ (pass2 rs) (omega (arith, total-is)) in
-        ap (λ (l : Log). log no_faults l.buffer) (faults-logged ∙ e) ∙ sym e
+    clean-logged = grind (arith, common_steps, faults-logged, logged_none f₀ (pass2 rs), total-is)
 
     pub listed-short : a.listed ≤ 1600
     listed-short = omega (arith, order-short rs few, h.listed_is)
@@ -68,15 +59,4 @@ module _ (rs : List Record) {f₀ f : List ℕ} {a : VisitProgress} (h : StateHe
 
       pub ret-copied : {out out' : List Record} {n : ℕ} → (n ≡ length (all_records rs l)) × (out' ≡ all_records rs l ++ drop n out) → DeclIdentifiersChecked rs f₀ out f out' (Ok n)
       unfolding ordered
-      ret-copied {out} {out'} {n} c =
-          let made : out' ≡ ordered rs ++ drop n out = rw is-order at c.1 in
-          let count : n ≡ length (ordered rs) = rw is-order at c.0 in (
-            accepts,
-            clean-logged,
-            record {
-              count = count;
-              short = omega (arith, count, ordered-short rs accepts);
-              records = rw made (take_at (ordered rs) (drop n out) n (sym count));
-              rest = rw made (drop_at (ordered rs) (drop n out) n (sym count));
-            },
-          )
+      ret-copied c = grind (arith, common_steps, accepts, clean-logged, is-order, ordered-short rs accepts)

@@ -1,17 +1,15 @@
 -- The records of a declaration, those of listed declarations, and the loop that copies them. Assumes nothing.
-use Rattle.std.proofs.Common.{None, Some, take_all, drop-drop}
-use mathlib.Core.Path.{◌≡◌, refl, sym, ◌∙◌, ap}
-use mathlib.Core.List.{List, [], ◌∷◌, ◌++◌, append_assoc, append-nil}
-use Prim.Native.Nat.{ℕ, ◌+◌, ◌-◌, ◌<◌, ◌≤◌}
-use native.Mathlib.Numerals.{add-one}
+use Rattle.std.proofs.Common.{take_all, drop-drop}
+use Rattle.std.proofs.lemmas.Grind.{common_steps}
+use mathlib.Core.Path.{◌≡◌, refl, ◌∙◌, ap}
+use mathlib.Core.List.{List, [], ◌∷◌, ◌++◌, append-nil}
+use Prim.Native.Nat.{ℕ, ◌+◌, ◌<◌, ◌≤◌}
 use native.Mathlib.Omega.{arith}
 use lib.ListN.{length, get_or, take, drop, length-append, length-drop, take-append-drop}
-use lib.Seq.{length-take-le, take_at, drop_at, take-suc}
-use Rattle.rules.specs.Places.{holds_at, first_from, member_count}
+use lib.Seq.{length-take-le}
+use Rattle.rules.specs.Places.{member_count}
 use Rattle.rules.specs.DeclIdentifiers.{decl_records, all_records}
 use Rattle.rules.specs.declared.Record.{Record}
-use Rattle.rules.specs.declared.Target.TheVariants.{Decl}
-use Rattle.table.proofs.Laws.{first-in}
 use Rattle.search.proofs.members.Laws.{members-in}
 use Rattle.decl_order.specs.Contract.{Placed}
 use Rattle.decl_order.proofs.Topological.{mem-at}
@@ -19,14 +17,6 @@ use Rattle.decl_order.proofs.Topological.{mem-at}
 -- ---- the records of a declaration
 
 module _ (rs : List Record) (d : ℕ) where
-  pub count-to : (e : ℕ) → first_from rs Decl (d + 1) ≡ Some e → (d < e) × (e - d ≡ 1 + member_count rs d)
-  unfolding member_count
-  count-to e h = let z = first-in (holds_at rs Decl) (length rs) (d + 1) e h in let l = z.0 in (omega arith, rw h (omega arith))
-
-  pub count-rest : d < length rs → first_from rs Decl (d + 1) ≡ None → length rs - d ≡ 1 + member_count rs d
-  unfolding member_count
-  count-rest l h = rw h (omega arith)
-
   pub count_fits : d < length rs → d + (1 + member_count rs d) ≤ length rs
   count_fits l = omega (arith, members-in rs d l)
 
@@ -39,7 +29,7 @@ module _ (rs : List Record) (d : ℕ) where
 pub all_records-append : (rs : List Record) (l k : List ℕ) → all_records rs (l ++ k) ≡ all_records rs l ++ all_records rs k
 unfolding all_records
 all_records-append rs [] k = refl
-all_records-append rs (x ∷ l) k = rw (all_records-append rs l k) (sym (append_assoc (decl_records rs x) (all_records rs l) (all_records rs k)))
+all_records-append rs (x ∷ l) k = grind (arith, common_steps, all_records-append rs l k)
 
 pub records-snoc : (rs : List Record) (l : List ℕ) (d : ℕ) → all_records rs (l ++ d ∷ []) ≡ all_records rs l ++ decl_records rs d
 unfolding all_records
@@ -69,10 +59,10 @@ module _ (rs : List Record) (places : List ℕ) (out₀ : List Record) (h : Plac
 
   module _ {out : List Record} {count i : ℕ} (c : Copied rs places out₀ out count i) (l : i < length places) {d m : ℕ} (de : d ≡ get_or places i 0) (me : m ≡ member_count rs d) where
     next : all_records rs (take (i + 1) places) ≡ all_records rs (take i places) ++ decl_records rs d
-    next = rw (de, add-one, take-suc places i 0 l) (records-snoc rs (take i places) (get_or places i 0))
+    next = grind (arith, common_steps, records-snoc rs (take i places) d)
 
     next-count : count + (1 + m) ≡ length (all_records rs (take (i + 1) places))
-    next-count = rw (next, length-append, decl-length rs d (place_at de l), me, c.counted)
+    next-count = grind (arith, common_steps, next, decl-length rs d (place_at de l), c.counted)
 
     pub copy-fits : count + (1 + m) ≤ length out₀
     copy-fits = rw next-count (fits-at (i + 1))
@@ -82,8 +72,7 @@ module _ (rs : List Record) (places : List ℕ) (out₀ : List Record) (h : Plac
     unfolding decl_records
     copy-turn {j} {k} {part} e je ke = record {
       counted = next-count;
-      made =
-          rw (e, je, ke, me, c.made, take_at (all_records rs (take i places)) (drop count out₀) count (sym c.counted), drop_at (all_records rs (take i places)) (drop count out₀) count (sym c.counted), next, append_assoc, drop-drop);
+      made = grind (arith, common_steps, c.made, c.counted, next, drop-drop {A = Record});
     }
 
   pub copy-end : {out : List Record} {count i : ℕ} → Copied rs places out₀ out count i → length places ≤ i → (count ≡ length (all_records rs places)) × (out ≡ all_records rs places ++ drop count out₀)

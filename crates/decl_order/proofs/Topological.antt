@@ -1,17 +1,13 @@
 -- A pass that finds no fault lists the declarations in topological order, and they are faultless. Assumes nothing.
+use Rattle.std.proofs.lemmas.Grind.{common_steps}
 use mathlib.Core.Path.{◌≡◌, refl, sym, ◌∙◌, ap, subst}
 use mathlib.Core.Logic.{◌⊎◌, inl, inr, ⊎_elim}
-use mathlib.Core.Bool.{Bool, true, false}
 use mathlib.Core.List.Memᴰ
 use mathlib.Core.List.{List, [], ◌∷◌, ◌++◌, Memᴰ}
 use Prim.Native.Nat.{ℕ, zero, suc, ◌<◌, ◌≤◌}
 use native.Mathlib.Nat.{le_refl}
 use native.Mathlib.Omega.{arith}
-use native.Mathlib.Decide.{ℕ_discrete}
-use borrow.Author.Tests.{eqb-true, eqb-false}
-use lib.Dec.{eqb}
-use lib.ListN.{length, get_or, set, replicate, length-append, length-set, length-replicate, get_or-replicate, get_or-append}
-use lib.Seq.{get_or-set_same, get_or-set_other}
+use lib.ListN.{length, get_or, length-append, length-set, length-replicate, get_or-append}
 use Rattle.rules.specs.declared.Reference.{Reference}
 use Rattle.rules.specs.declared.Reference.TheVariants.{Nowhere, Wrong, Follow}
 use Rattle.rules.specs.Visits.{PlaceFault, State, mark_of, opened, faulted, listed, walk, enter, visit, unvisited, visit_all}
@@ -34,16 +30,10 @@ walk-adds v h (Nowhere ∷ l) s e = walk-adds v h l s e
 walk-adds v h (Wrong c p ∷ l) s e = absurd (snoc-nil s.faults (record { code = c; place = p }) (walk-adds v h l (faulted c p s) e))
 walk-adds v h (Follow x ∷ l) s e = h x s (walk-adds v h l (v x s) e)
 
-enter-adds : (b b' : Bool) (v : ℕ → State → State) → Adds v → (l : List Reference) (d : ℕ) (s : State) → (enter b b' v l d s).faults ≡ [] → s.faults ≡ []
-unfolding enter
-enter-adds true b' v h l d s e = walk-adds v h l (opened d s) e
-enter-adds false true v h l d s e = absurd (snoc-nil s.faults (record { code = 2; place = d }) e)
-enter-adds false false v h l d s e = e
-
 visit-adds : (k : ℕ) (f : ℕ → List Reference) → Adds (visit k f)
-unfolding visit
+unfolding visit enter
 visit-adds zero f d s e = e
-visit-adds (suc k) f d s e = enter-adds (eqb (mark_of s d) 0) (eqb (mark_of s d) 1) (visit k f) (visit-adds k f) (f d) d s e
+visit-adds (suc k) f d s e = grind (arith, common_steps, walk-adds (visit k f) (visit-adds k f) (f d) (opened d s), snoc-nil s.faults (record { code = 2; place = d }))
 
 -- ---- what visits without a fault leave
 
@@ -52,26 +42,6 @@ pub data ListedInOrder (f : ℕ → List Reference) : List ℕ → Type 0 where
   none : ListedInOrder f []
   more : {l : List ℕ} {d : ℕ} → ListedInOrder f l → ((e : ℕ) → Memᴰ (Follow e) (f d) → Memᴰ e l)
       → ((c p : ℕ) → Memᴰ (Wrong c p) (f d) → ⊥) → (Memᴰ d l → ⊥) → ListedInOrder f (l ++ (d ∷ []))
-
-pub follow-inj : {x y : ℕ} → Follow x ≡ Follow y → x ≡ y
-follow-inj e = cc
-
-pub follow-wrong : {x c p : ℕ} → Wrong c p ≡ Follow x → ⊥
-follow-wrong e = let z : ◌≡◌ {A = ℕ} 0 1 = cc in omega arith
-
-pub follow-nowhere : {x : ℕ} → Follow x ≡ Nowhere → ⊥
-follow-nowhere e = let z : ◌≡◌ {A = ℕ} 0 1 = cc in omega arith
-
-pub wrong-nowhere : {c p : ℕ} → Wrong c p ≡ Nowhere → ⊥
-wrong-nowhere e = let z : ◌≡◌ {A = ℕ} 0 1 = cc in omega arith
-
--- marks are at most 2 after a store of at most 2
-legal-set : (l : List ℕ) (d v i : ℕ) → v ≤ 2 → ((j : ℕ) → get_or l j 2 ≤ 2) → get_or (set l d v) i 2 ≤ 2
-legal-set [] d v i h g = g i
-legal-set (x ∷ l) zero v zero h g = h
-legal-set (x ∷ l) zero v (suc i) h g = g (suc i)
-legal-set (x ∷ l) (suc d) v zero h g = g zero
-legal-set (x ∷ l) (suc d) v (suc i) h g = legal-set l d v i h (λ j. g (suc j))
 
 module _ (f : ℕ → List Reference) (D : ℕ → Type 0) (n : ℕ)
     (closed : (d e : ℕ) → D d → Memᴰ (Follow e) (f d) → D e)
@@ -109,111 +79,59 @@ module _ (f : ℕ → List Reference) (D : ℕ → Type 0) (n : ℕ)
       let r = walk-sorts v k h a l s (λ e m. w e (Memᴰ.tail m)) q i z in
       record {
         done = r.done;
-        all = λ e m. ⊎_elim (λ y. absurd (follow-nowhere y)) (r.all e) (Memᴰ.cases_cons m);
-        right = λ c p m. ⊎_elim (λ y. wrong-nowhere y) (r.right c p) (Memᴰ.cases_cons m);
+        all = λ e m. grind (arith, common_steps, Memᴰ.cases_cons m, r.all e);
+        right = λ c p m. grind (arith, common_steps, Memᴰ.cases_cons m, r.right c p);
       }
   walk-sorts v k h a (Wrong c p ∷ l) s w q i z = absurd (snoc-nil s.faults (record { code = c; place = p }) (walk-adds v a l (faulted c p s) z))
   walk-sorts v k h a (Follow x ∷ l) s w q i z =
       let b = h x s (w x (Memᴰ.head refl)) q i (walk-adds v a l (v x s) z) in
       let g = b.0.falls in
       let r = walk-sorts v k h a l (v x s) (λ e m. w e (Memᴰ.tail m)) (omega arith) b.0.inv z in
-      let g' = r.done.falls in
-      let two : (e : ℕ) → e ≡ x → mark_of (walk v l (v x s)) e ≡ 2 =
-      λ e y. ap (λ j. mark_of (walk v l (v x s)) j) y ∙ r.done.keeps x (λ o. absurd (let t = b.1 in omega arith)) ∙ b.1 in
       record {
-        done = record {
-          inv = r.done.inv;
-          keeps = λ j y. r.done.keeps j (λ o. y (sym (b.0.keeps j y) ∙ o)) ∙ b.0.keeps j y;
-          falls = omega arith;
-        };
-        all = λ e m. ⊎_elim (λ y. two e (follow-inj y)) (r.all e) (Memᴰ.cases_cons m);
-        right = λ c p m. ⊎_elim (λ y. follow-wrong y) (r.right c p) (Memᴰ.cases_cons m);
+        done = record { inv = r.done.inv; keeps = λ j y. grind (arith, common_steps, r.done.keeps j, b.0.keeps j); falls = omega (arith, r.done.falls) };
+        all = λ e m. grind (arith, common_steps, Memᴰ.cases_cons m, r.all e, r.done.keeps x, b.1);
+        right = λ c p m. grind (arith, common_steps, Memᴰ.cases_cons m, r.right c p);
       }
 
   -- d, not visited yet, is opened
   open-inv : (d : ℕ) (s : State) → d < n → mark_of s d ≡ 0 → Inv s → Inv (opened d s)
-  open-inv d s l z i = record {
-    size = length-set s.marks d 1 ∙ i.size;
-    legal = λ j. legal-set s.marks d 1 j (omega arith) i.legal;
-    listed_in = λ e b m. ⊎_elim
-        (λ y. absurd (one-two (sym (get_or-set_same s.marks d 1 2 (subst (λ k. d < k) (sym i.size) l)) ∙ ap (λ j. get_or (set s.marks d 1) j 2) (sym y) ∙ m)))
-        (λ y. i.listed_in e b (sym (get_or-set_other s.marks d e 1 2 y) ∙ m))
-        (same? e d);
-    in-listed = λ e m. get_or-set_other s.marks d e 1 2 (λ y. zero-two (sym z ∙ ap (λ j. mark_of s j) (sym y) ∙ i.in-listed e m)) ∙ i.in-listed e m;
-    ordered = i.ordered;
-    declared = i.declared;
-  }
-    where
-      one-two : ◌≡◌ {A = ℕ} 1 2 → ⊥
-      one-two e = omega arith
-
-      zero-two : ◌≡◌ {A = ℕ} 0 2 → ⊥
-      zero-two e = omega arith
-
-      same? : (e d : ℕ) → (e ≡ d) ⊎ (¬ (e ≡ d))
-      same? e d = elim (ℕ_discrete e d) [ yes y ↦ inl y | no y ↦ inr y ]
+  open-inv d s l z i = grind (arith, common_steps)
 
   -- d, which is being visited, is listed: all that it follows is listed, and none of its references is a fault
   list-inv : (d : ℕ) (s : State) → D d → mark_of s d ≡ 1 → ((e : ℕ) → Memᴰ (Follow e) (f d) → mark_of s e ≡ 2)
       → ((c p : ℕ) → Memᴰ (Wrong c p) (f d) → ⊥) → Inv s → Inv (listed d s)
   list-inv d s dd z all q i = record {
     size = length-set s.marks d 2 ∙ i.size;
-    legal = λ j. legal-set s.marks d 2 j (omega arith) i.legal;
-    listed_in = λ e b m. ⊎_elim
-        (λ y. Memᴰ.append_right s.order (Memᴰ.head y))
-        (λ y. Memᴰ.append_left (d ∷ []) (i.listed_in e b (sym (get_or-set_other s.marks d e 2 2 y) ∙ m)))
-        (same e d);
-    in-listed = λ e m. ⊎_elim
-        (λ y. get_or-set_other s.marks d e 2 2 (λ x. one-two (sym z ∙ ap (λ j. mark_of s j) (sym x) ∙ i.in-listed e y)) ∙ i.in-listed e y)
-        (λ y. ap (λ j. get_or (set s.marks d 2) j 2) (Memᴰ.eq_of_singleton y) ∙ get_or-set_same s.marks d 2 2 (subst (λ k. d < k) (sym i.size) (below d dd)))
-        (Memᴰ.append_cases s.order m);
-    ordered = more i.ordered (λ e m. i.listed_in e (below e (closed d e dd m)) (all e m)) q (λ m. one-two (sym z ∙ i.in-listed d m));
+    legal = λ j. grind (arith, common_steps, i.legal j);
+    listed_in = λ e b m. grind (arith, common_steps, λ (y : e ≡ d). Memᴰ.append_right s.order (Memᴰ.head {xs = []} y), λ (m : mark_of s e ≡ 2). Memᴰ.append_left (d ∷ []) (i.listed_in e b m));
+    in-listed = λ e m. grind (arith, common_steps, Memᴰ.append_cases s.order m, i.in-listed e, λ (y : Memᴰ e (d ∷ [])). Memᴰ.eq_of_singleton y, below d dd);
+    ordered = more i.ordered (λ e m. i.listed_in e (below e (closed d e dd m)) (all e m)) q (λ m. grind (arith, common_steps, i.in-listed d m));
     declared = λ e m. ⊎_elim (λ y. i.declared e y) (λ y. subst D (sym (Memᴰ.eq_of_singleton y)) dd) (Memᴰ.append_cases s.order m);
   }
-    where
-      one-two : ◌≡◌ {A = ℕ} 1 2 → ⊥
-      one-two e = omega arith
 
-      same : (e d : ℕ) → (e ≡ d) ⊎ (¬ (e ≡ d))
-      same e d = elim (ℕ_discrete e d) [ yes y ↦ inl y | no y ↦ inr y ]
-
-  enter-sorts : (b b' : Bool) (v : ℕ → State → State) (k : ℕ) → Sorts v k → Adds v → (d : ℕ) (s : State)
-      → (b ≡ true → mark_of s d ≡ 0) → (b ≡ false → ¬ (mark_of s d ≡ 0)) → (b' ≡ false → ¬ (mark_of s d ≡ 1))
-      → D d → unvisited_count s.marks < suc k → Inv s → (enter b b' v (f d) d s).faults ≡ []
-      → Done s (enter b b' v (f d) d s) × (mark_of (enter b b' v (f d) d s) d ≡ 2)
-  unfolding enter
-  enter-sorts true b' v k h a d s m m₀ m₁ dd q i z =
-      let l = below d dd in
-      let o = unvisited-opened s.marks d (m refl) in
-      let r = walk-sorts v k h a (f d) (opened d s) (λ e g. closed d e dd g) (omega arith) (open-inv d s l (m refl) i) z in
+  -- the visit of a declaration not visited yet
+  open-sorts : (v : ℕ → State → State) (k : ℕ) → Sorts v k → Adds v → (d : ℕ) (s : State) → D d → unvisited_count s.marks < suc k → Inv s → mark_of s d ≡ 0
+      → (walk v (f d) (opened d s)).faults ≡ [] → Done s (listed d (walk v (f d) (opened d s))) × (mark_of (listed d (walk v (f d) (opened d s))) d ≡ 2)
+  open-sorts v k h a d s dd q i m z =
       let s₁ = walk v (f d) (opened d s) in
-      let at : mark_of (opened d s) d ≡ 1 = get_or-set_same s.marks d 1 2 (subst (λ k. d < k) (sym i.size) l) in
-      let at₁ : mark_of s₁ d ≡ 1 = r.done.keeps d (λ y. absurd (omega arith)) ∙ at in
-      let other : (j : ℕ) → ¬ (mark_of s j ≡ 0) → ¬ (j ≡ d) = λ j y e. y (ap (λ x. mark_of s x) e ∙ m refl) in
-      let g = r.done.falls in
-      let g' = unvisited-set s₁.marks d 1 in (
+      let o = unvisited-opened s.marks d m in
+      let l = below d dd in
+      let size = i.size in
+      let r = walk-sorts v k h a (f d) (opened d s) (λ e g. closed d e dd g) (omega arith) (open-inv d s l m i) z in
+      let at₁ : mark_of s₁ d ≡ 1 = grind (arith, common_steps, r.done.keeps d) in (
         record {
           inv = list-inv d s₁ dd at₁ r.all r.right r.done.inv;
-          keeps = λ j y.
-              let e : mark_of (opened d s) j ≡ mark_of s j = get_or-set_other s.marks d j 1 2 (other j y) in
-              get_or-set_other s₁.marks d j 2 2 (other j y) ∙ r.done.keeps j (λ x. y (sym e ∙ x)) ∙ e;
-          falls = omega arith;
+          keeps = λ j y. grind (arith, common_steps, r.done.keeps j);
+          falls = omega (arith, r.done.falls, unvisited-set s₁.marks d 1);
         },
-        get_or-set_same s₁.marks d 2 2 (subst (λ k. d < k) (sym r.done.inv.size) l),
+        grind (arith, common_steps, r.done.inv.size),
       )
-  enter-sorts false true v k h a d s m m₀ m₁ dd q i z = absurd (snoc-nil s.faults (record { code = 2; place = d }) z)
-  enter-sorts false false v k h a d s m m₀ m₁ dd q i z =
-      let x = m₀ refl in
-      let y = m₁ refl in
-      let g = i.legal d in
-      (record { inv = i; keeps = λ _ _. refl; falls = le_refl (unvisited_count s.marks) }, omega arith)
 
   visit-sorts : (k : ℕ) → Sorts (visit k f) k
-  unfolding visit
+  unfolding visit enter
   visit-sorts zero d s dd q i z = absurd (omega arith)
   visit-sorts (suc k) d s dd q i z =
-      enter-sorts (eqb (mark_of s d) 0) (eqb (mark_of s d) 1) (visit k f) k (visit-sorts k) (visit-adds k f) d s
-      (eqb-true (mark_of s d) 0) (eqb-false (mark_of s d) 0) (eqb-false (mark_of s d) 1) dd q i z
+      grind (arith, common_steps, open-sorts (visit k f) k (visit-sorts k) (visit-adds k f) d s dd q i, i.legal d, snoc-nil s.faults (record { code = 2; place = d }))
 
 -- ---- an ordered list, by its indices
 
@@ -228,19 +146,15 @@ index_of (Memᴰ.tail m) = let r = index_of m in let h = r.1 in (suc r.0, omega 
 
 -- an index of l ++ (d ∷ []) is one of l, or the last
 last_or : (l : List ℕ) (d i : ℕ) → i < length (l ++ (d ∷ [])) → ((i < length l) × (get_or (l ++ (d ∷ [])) i 0 ≡ get_or l i 0)) ⊎ ((i ≡ length l) × (get_or (l ++ (d ∷ [])) i 0 ≡ d))
-last_or [] d zero h = inr (refl, refl)
-last_or [] d (suc i) h = absurd (omega arith)
-last_or (x ∷ l) d zero h = inl (omega arith, refl)
-last_or (x ∷ l) d (suc i) h = ⊎_elim (λ y. let q = y.0 in inl (omega arith, y.1)) (λ y. inr (ap suc y.0, y.1)) (last_or l d i (omega arith))
+last_or l d i h = grind (arith, common_steps)
+
+mem-last : {l : List ℕ} {x d : ℕ} → Memᴰ d (l ++ x ∷ []) → Memᴰ d l ⊎ (d ≡ x)
+mem-last {l} m = ⊎_elim inl (λ y. inr (Memᴰ.eq_of_singleton y)) (Memᴰ.append_cases l m)
 
 module _ {f : ℕ → List Reference} where
   once : {l : List ℕ} → ListedInOrder f l → (i j : ℕ) → i < length l → j < length l → get_or l i 0 ≡ get_or l j 0 → i ≡ j
   once none i j h g e = absurd (omega arith)
-  once (more {l = l} {d = d} o a q u) i j h g e =
-      ⊎_elim
-      (λ x. ⊎_elim (λ y. once o i j x.0 y.0 (sym x.1 ∙ e ∙ y.1)) (λ y. absurd (u (Memᴰ.cast (sym y.1 ∙ sym e ∙ x.1) (mem-at l i x.0)))) (last_or l d j g))
-      (λ x. ⊎_elim (λ y. absurd (u (Memᴰ.cast (sym x.1 ∙ e ∙ y.1) (mem-at l j y.0)))) (λ y. x.0 ∙ sym y.0) (last_or l d j g))
-      (last_or l d i h)
+  once (more {l = l} {d = d} o a q u) i j h g e = grind (arith, common_steps, once o i j, last_or l d i h, last_or l d j g, mem-at l i, mem-at l j, u)
 
   after : {l : List ℕ} → ListedInOrder f l → (i e : ℕ) → i < length l → Memᴰ (Follow e) (f (get_or l i 0)) → (j : ℕ) × (j < i) × (get_or l j 0 ≡ e)
   after none i e h m = absurd (omega arith)
@@ -258,15 +172,12 @@ module _ {f : ℕ → List Reference} where
 
   right-in : {l : List ℕ} → ListedInOrder f l → (d : ℕ) → Memᴰ d l → (c p : ℕ) → Memᴰ (Wrong c p) (f d) → ⊥
   right-in none d m c p g = Memᴰ.not-nil m
-  right-in (more {l = l} {d = x} o a q u) d m c p g =
-      ⊎_elim (λ y. right-in o d y c p g) (λ y. q c p (subst (λ z. Memᴰ (Wrong c p) (f z)) (Memᴰ.eq_of_singleton y) g)) (Memᴰ.append_cases l m)
+  right-in (more o a q u) d m c p g = grind (arith, common_steps, mem-last m, right-in o d, q c p)
 
   -- what a listed declaration follows is listed
   closed_in : {l : List ℕ} → ListedInOrder f l → (d e : ℕ) → Memᴰ d l → Memᴰ (Follow e) (f d) → Memᴰ e l
   closed_in none d e m g = absurd (Memᴰ.not-nil m)
-  closed_in (more {l = l} {d = x} o a q u) d e m g =
-      Memᴰ.append_left (x ∷ [])
-      (⊎_elim (λ y. closed_in o d e y g) (λ y. a e (subst (λ z. Memᴰ (Follow e) (f z)) (Memᴰ.eq_of_singleton y) g)) (Memᴰ.append_cases l m))
+  closed_in (more {d = x} o a q u) d e m g = Memᴰ.append_left (x ∷ []) (grind (arith, common_steps, mem-last m, closed_in o d e, a e))
 
   reaches-in : {l : List ℕ} → ListedInOrder f l → {d e : ℕ} → Memᴰ d l → Reaches f d e → Memᴰ e l
   reaches-in o {d} {e} m (one g) = closed_in o d e m g
@@ -274,19 +185,13 @@ module _ {f : ℕ → List Reference} where
 
   acyclic-in : {l : List ℕ} → ListedInOrder f l → (d : ℕ) → Memᴰ d l → Reaches f d d → ⊥
   acyclic-in none d m w = Memᴰ.not-nil m
-  acyclic-in (more {l = l} {d = x} o a q u) d m w =
-      ⊎_elim (λ y. acyclic-in o d y w) (λ y. u (last_step (subst (λ z. Reaches f z z) (Memᴰ.eq_of_singleton y) w))) (Memᴰ.append_cases l m)
+  acyclic-in (more {l = l} {d = x} o a q u) d m w = ⊎_elim (λ y. acyclic-in o d y w) (λ y. u (last_step (subst (λ z. Reaches f z z) y w))) (mem-last m)
     where
       last_step : {e : ℕ} → Reaches f x e → Memᴰ e l
       last_step {e} (one g) = a e g
       last_step (step {x = y} g w') = reaches-in o (a y g) w'
 
 -- ---- all visits
-
-legal-all : (n i : ℕ) → get_or {A = ℕ} (replicate n 0) i 2 ≤ 2
-legal-all zero i = le_refl 2
-legal-all (suc n) zero = omega arith
-legal-all (suc n) (suc i) = legal-all n i
 
 module _ (n : ℕ) (f : ℕ → List Reference) (roots : List Reference)
     (closed : (d e : ℕ) → Memᴰ (Follow d) roots → Memᴰ (Follow e) (f d) → Memᴰ (Follow e) roots)
@@ -298,13 +203,12 @@ module _ (n : ℕ) (f : ℕ → List Reference) (roots : List Reference)
   through : SortedWalk f D n closed below roots (unvisited n) (visit_all n f roots)
   unfolding visit_all
   through =
-      let fr = unvisited-all n in
       walk-sorts f D n closed below (visit (suc n) f) (suc n) (visit-sorts f D n closed below (suc n)) (visit-adds (suc n) f) roots (unvisited n) (λ e m. m)
-      (omega arith)
+      (omega (arith, unvisited-all n))
       (record {
         size = length-replicate n 0;
-        legal = legal-all n;
-        listed_in = λ e b m. absurd (let q : get_or {A = ℕ} (replicate n 0) e 2 ≡ 0 = get_or-replicate n e 0 2 b in omega arith);
+        legal = λ i. grind (arith, common_steps);
+        listed_in = λ e b m. absurd (grind (arith, common_steps));
         in-listed = λ e m. absurd (Memᴰ.not-nil m);
         ordered = none;
         declared = λ e m. absurd (Memᴰ.not-nil m);

@@ -59,9 +59,12 @@ visit-growth f short (suc k) d s =
     grind (arith, common_steps, unvisited-opened s.marks d, w, unvisited-set (walk (visit k f) (f d) (opened d s)).marks d 1, short d)
 
 -- one step of the fields
-pub fields-one : (rs : List Record) (p : ℕ) → p < length rs → is_decl (at rs p).kind ≡ false → field_references rs p (length rs - p) ≡ field_reference rs p ∷ field_references rs (p + 1) (length rs - (p + 1))
+pub fields-cons : (rs : List Record) (p j : ℕ) → is_decl (at rs p).kind ≡ false → field_references rs p (suc j) ≡ field_reference rs p ∷ field_references rs (p + 1) j
 unfolding field_references
-fields-one rs p l e = let z : length rs - p ≡ suc (length rs - (p + 1)) = omega arith in rw (z, field_references, e)
+fields-cons rs p j e = rw (field_references, e)
+
+pub fields-one : (rs : List Record) (p : ℕ) → p < length rs → is_decl (at rs p).kind ≡ false → field_references rs p (length rs - p) ≡ field_reference rs p ∷ field_references rs (p + 1) (length rs - (p + 1))
+fields-one rs p l e = let z : length rs - p ≡ suc (length rs - (p + 1)) = omega arith in rw z (fields-cons rs p (length rs - (p + 1)) e)
 
 pub fields-decl : (rs : List Record) (p j : ℕ) → is_decl (at rs p).kind ≡ true → field_references rs p j ≡ []
 unfolding field_references
