@@ -55,7 +55,7 @@ fn run_places<F: Fn(usize) -> (Option<Fault>, Option<Fault>)>(
     tally
 }
 
-// Pass 1, by what is known of the names.
+// The faults of declarations' names, by what is known of them.
 fn scopes(names: &Names, buffer: &mut [u8]) -> Tally
     ensures { log result buffer.new ≡ logged buffer.old (pass1 names.now.table.now) }
 {
@@ -67,10 +67,11 @@ fn scopes(names: &Names, buffer: &mut [u8]) -> Tally
     )
 }
 
+// Pass 1.
 pub fn check_scopes(table: &[Record], buffer: &mut [u8]) -> Tally
     ensures { log result buffer.new ≡ logged buffer.old (pass1 table.now) }
 {
-    // A local array is cleared only in a large table. An Option of it is cleared where it is None, too: 2.4 microseconds for 7 records, not 1.2.
+    // An Option of the array, as one function of the table, would clear it for small tables, too, which takes them as long again.
     if !is_large(table) {
         return scopes(&Names::new(table), buffer);
     }
@@ -98,7 +99,7 @@ pub fn check_field_identifiers(table: &[Record], buffer: &mut [u8]) -> Tally
     field_identifiers::check_field_identifiers(table, &marks, buffer)
 }
 
-// Pass 5, where `sizes` and `elements` say which sizes may repeat a name, and `starts` where to search for what they name.
+// The faults of sizes, where `sizes` and `elements` say which sizes may repeat a name, and `starts` where to search for what they name.
 fn sizes(
     table: &[Record],
     sizes: &[bool],
@@ -122,6 +123,7 @@ fn sizes(
     )
 }
 
+// Pass 5.
 pub fn check_size_fields(table: &[Record], buffer: &mut [u8]) -> Tally
     ensures { log result buffer.new ≡ logged buffer.old (pass5 table.now) }
 {
@@ -135,7 +137,7 @@ pub fn check_size_fields(table: &[Record], buffer: &mut [u8]) -> Tally
     sizes(table, &repeated, &elements, &starts, buffer)
 }
 
-// Pass 6, by what is known of the names.
+// The faults of fixed fields, by what is known of the names.
 fn fixed_values(names: &Names, buffer: &mut [u8]) -> Tally
     ensures { log result buffer.new ≡ logged buffer.old (pass6 names.now.table.now) }
 {
@@ -147,6 +149,7 @@ fn fixed_values(names: &Names, buffer: &mut [u8]) -> Tally
     )
 }
 
+// Pass 6.
 pub fn check_fixed_fields(table: &[Record], buffer: &mut [u8]) -> Tally
     ensures { log result buffer.new ≡ logged buffer.old (pass6 table.now) }
 {
@@ -157,7 +160,7 @@ pub fn check_fixed_fields(table: &[Record], buffer: &mut [u8]) -> Tally
     fixed_values(&Names::with_starts(table, &mut starts), buffer)
 }
 
-// Pass 7, where `parents` says which names a child with a field may give for its parent.
+// The faults of payloads, where `parents` says which names a child with a field may give for its parent.
 fn payloads(table: &[Record], parents: &[bool], buffer: &mut [u8]) -> Tally
     requires { Parents table.now parents.now }
     ensures { log result buffer.new ≡ logged buffer.old (pass7 table.now) }
@@ -170,6 +173,7 @@ fn payloads(table: &[Record], parents: &[bool], buffer: &mut [u8]) -> Tally
     )
 }
 
+// Pass 7.
 pub fn check_payload_fields(table: &[Record], buffer: &mut [u8]) -> Tally
     ensures { log result buffer.new ≡ logged buffer.old (pass7 table.now) }
 {
