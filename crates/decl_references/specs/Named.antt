@@ -4,7 +4,7 @@ use Rattle.rules.specs.declared.Reference.{Reference}
 use Rattle.rules.specs.declared.Reference.TheVariants.{Nowhere, Wrong, Follow}
 
 -- the code missing where there is none, invalid where it is not allowed; an allowed one is followed, or only checked
-abbrev pub named_reference : ℕ → ℕ → Bool → (ℕ → Bool) → ℕ → Option ℕ → Reference
-named_reference missing invalid followed allowed p None = Wrong missing p
-named_reference missing invalid followed allowed p (Some e) =
-    if allowed e then if followed then Follow e else Nowhere else Wrong invalid p
+abbrev pub named_reference : ℕ → ℕ → Bool → Bool → ℕ → Option ℕ → Reference
+named_reference missing invalid allowed followed p None = Wrong missing p
+named_reference missing invalid allowed followed p (Some e) =
+    if allowed then if followed then Follow e else Nowhere else Wrong invalid p

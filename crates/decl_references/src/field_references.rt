@@ -7,38 +7,29 @@ use declarations::Names;
 use rules::{Record, Reference, codes};
 
 // The Group field at `place`.
+#[tactic(auto, unfolding(rules::specs::DeclIdentifiers::group_reference))]
 fn group_reference(table: &[Record], place: usize, found: Option<usize>) -> Reference
     ensures { result ≡ group_reference table.now place found }
 {
     let missing = codes::UNDECLARED_GROUP_IDENTIFIER;
     let invalid = codes::INVALID_GROUP_IDENTIFIER;
-    named_reference(
-        place,
-        found,
-        missing,
-        invalid,
-        true,
-        |e| table::kind(table, e) == kinds::GROUP,
-    )
+    let allowed = found.is_some_and(|e| table::kind(table, e) == kinds::GROUP);
+    named_reference(place, found, missing, invalid, allowed, true)
 }
 
 // The Typedef or typed array at `place`, which may be checked and not followed.
+#[tactic(auto, unfolding(rules::specs::DeclIdentifiers::type_reference))]
 fn type_reference(followed: bool, table: &[Record], place: usize, found: Option<usize>) -> Reference
     ensures { result ≡ type_reference followed table.now place found }
 {
     let missing = codes::UNDECLARED_TYPE_IDENTIFIER;
     let invalid = codes::INVALID_TYPE_IDENTIFIER;
-    named_reference(
-        place,
-        found,
-        missing,
-        invalid,
-        followed,
-        |e| table::kind(table, e) != kinds::PACKET,
-    )
+    let allowed = found.is_some_and(|e| table::kind(table, e) != kinds::PACKET);
+    named_reference(place, found, missing, invalid, allowed, followed)
 }
 
 // The record at `place`, as a field.
+#[tactic(auto, unfolding(rules::specs::DeclIdentifiers::field_reference))]
 pub fn field_reference(names: &Names, place: usize) -> Reference
     ensures { result ≡ field_reference names.now.table.now place }
 {
