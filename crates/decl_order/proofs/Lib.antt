@@ -3,6 +3,7 @@ pub mod Accepts
 pub mod Topological
 pub mod Promise
 pub mod Copies
+pub mod ListedBytes
 pub mod Room
 pub mod Checks
 pub mod Stretches
