@@ -49,6 +49,7 @@ pub fn check_decl_identifiers(
     requires { (length table.now ≤ 1600) × (length table.now ≤ length out.old) }
     ensures { DeclIdentifiersChecked table.now buffer.old out.old buffer.new out.new result }
 {
+    // The array is made only for a large table, as those of pass_faults.
     if !is_large(table) {
         return order_from(&Names::new(table), buffer, out);
     }

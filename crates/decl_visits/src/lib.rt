@@ -19,7 +19,7 @@ const VISITING: u8 = 1;
 
 const LISTED: u8 = 2;
 
-// A mark for each place, the places listed so far with their count, and the faults found.
+// A mark for each place, the places listed so far with their count, as there is no heap, and the faults found.
 #[derive(Drop)]
 pub struct VisitProgress {
     pub marks: [u8; MOST_RECORDS],
@@ -100,7 +100,8 @@ fn visit(names: &Names, decl: usize, progress: &mut VisitProgress, buffer: &mut 
     }
 }
 
-// Takes up what the fields from `place` on refer to, up to the next declaration.
+// Takes up what the fields from `place` on refer to, up to the next declaration. That end is one test here, in `flag_sizes::entries` and in
+// `mark_conditions`: one iterator for the three would have a longer contract than they have.
 #[cycle(visit_walk)]
 fn walk(names: &Names, place: usize, progress: &mut VisitProgress, buffer: &mut [u8])
     requires { VisitReady names.now.table.now progress.old buffer.old (length names.now.table.now - place) 0 }

@@ -54,7 +54,7 @@ fn range_found(table: &[Record], found: Option<usize>) -> Record
     }
 }
 
-// Three findings, one after the other.
+// Three findings, one after the other. The bounds on the tally stay clauses, as each function finds another number of faults.
 fn note_three(
     tally: Tally,
     buffer: &mut [u8],

@@ -29,7 +29,7 @@ pub fn double(code: u16, primary: Record, secondary: Record) -> Fault
     }
 }
 
-// The bytes of a fault.
+// The bytes of a fault. No From, as neither type is this crate's own.
 pub(crate) fn bytes_of(fault: Fault) -> [u8; FAULT_LENGTH]
     ensures { result ≡ fault_bytes fault }
 {

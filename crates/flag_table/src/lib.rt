@@ -26,7 +26,8 @@ fn flag_of(r: Record) -> Record
     }
 }
 
-// Writes `r` at place `count`.
+// Writes `r` at place `count`. Buffer and count stay two parameters: of a struct that holds the lent buffer, nothing is known of the lender's
+// bytes at its end.
 #[tactic(auto, using(crate::proofs::Writing::puts))]
 fn append(out: &mut [u8], count: usize, r: Record) -> usize
     requires { RoomForRecords out.old count (r ∷ []) }

@@ -39,7 +39,7 @@ fn fixed_scalar(scalar: Record, constraint: Record) -> Inlined
     }
 }
 
-// A Typedef that `constraint` fixes; it needs a tag.
+// A Typedef that `constraint` fixes; it needs a tag. It is no twin of the Scalar's: other fields are set, and another part of the constraint is read.
 fn fixed_enum(typedef: Record, constraint: Record) -> Inlined
     ensures { result ≡ fixed_enum typedef constraint }
 {

@@ -43,6 +43,7 @@ pub fn fill(table: &[Record], targets: &mut [u16])
     if first == table.len() {
         return;
     }
+    // The array is made only for a large table, as those of pass_faults.
     if !is_large(table) {
         fill_from(&Names::new(table), first, targets);
         return;

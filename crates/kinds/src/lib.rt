@@ -1,4 +1,5 @@
-// The kinds of records by their numbers, under the names of crates/rules/specs/Kinds.antt, and groups of kinds.
+// The kinds of records by their numbers, under the names of crates/rules/specs/Kinds.antt, and groups of kinds. They stay numbers: a table
+// may hold any byte, for which an enum would need a case, and the definitions compare numbers.
 #![tactic(auto)]
 
 ghost use Rattle.std.specs.Prelude.{◌≡◌};

@@ -6,7 +6,7 @@ ghost use Rattle.layout.specs.Packed.{unpacked};
 use kinds::{is_decl, is_field};
 use rules::{Record, Row};
 
-// A name or number that a kind doesn't list, or lists; a name that is opt; a number under its mark.
+// A name or number that a kind doesn't list, or lists; a name that is opt; a number under its mark. They stay numbers, as a row is packed into one.
 const NONE: u8 = 0;
 
 const LISTED: u8 = 1;
@@ -19,9 +19,9 @@ const MARKED: u8 = 2;
 fn packed(kind: u8, marks: u8, name: u8, second: u8, third: u8, one: u8, two: u8) -> u32
     ensures { result ≡ kind + 256 * (marks + 4 * (name + 4 * (second + 4 * (third + 4 * (one + 4 * two))))) }
 {
-    let numbers = (one as u32) + 4 * (two as u32);
-    let names = (name as u32) + 4 * ((second as u32) + 4 * ((third as u32) + 4 * numbers));
-    (kind as u32) + 256 * ((marks as u32) + 4 * names)
+    let numbers = u32::from(one) + 4 * u32::from(two);
+    let names = u32::from(name) + 4 * (u32::from(second) + 4 * (u32::from(third) + 4 * numbers));
+    u32::from(kind) + 256 * (u32::from(marks) + 4 * names)
 }
 
 // The row of a kind, packed, or one of kind 0.

@@ -1,4 +1,4 @@
-// The program on 64040 bytes.
+// The program on 64040 bytes: a program of its own, as each has one input.
 #![tactic(auto)]
 
 fn main(rt: HostRuntime) {

@@ -20,7 +20,7 @@ pub fn scope_new(table: &[Record], buffer: &mut [u8]) -> Tally
     check_scopes(table, buffer)
 }
 
-// A pass that finds faults, and how many it finds.
+// A pass that finds faults, by its number, as the reply gives it to C, and how many it finds.
 #[derive(Clone, Copy)]
 pub struct Faulty {
     pub pass: u8,

@@ -5,7 +5,7 @@ ghost use Rattle.pdl.specs.Numbers.{header_numbers};
 
 use rules::Reply;
 
-// A reply as the header's three numbers.
+// A reply as the header's three numbers. No From, as neither type is this crate's own.
 #[tactic(auto, unfolding(crate::specs::Numbers::header_numbers, rules::specs::Replies::numbered))]
 pub fn header_numbers(reply: Reply) -> [u64; 3]
     ensures { result ≡ header_numbers (numbered reply) }

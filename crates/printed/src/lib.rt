@@ -67,7 +67,8 @@ fn fault_at(faults: &[u8], from: usize) -> Fault
 
 // Two loops and not one over a closure, whose contract would have to say what each call does to the text.
 
-// The lines of the first `count` records of a table.
+// The lines of the first `count` records of a table, by number: the definition counts places of the whole table, and the parts that
+// `chunks_exact` gives would need laws of their own.
 #[tactic(auto, using(crate::proofs::Laws::record_laws))]
 fn append_records(text: &mut [u8], at: usize, table: &[u8], count: usize) -> usize
     requires { (at + 210 * count ≤ length text.old) × (40 * count ≤ length table.now) }

@@ -7,7 +7,7 @@ ghost use Rattle.std.specs.Prelude.{[], ◌∷◌, ◌++◌, ◌+◌, ◌*◌, �
 ghost use Rattle.rules.specs.Printed.{decimal, listing, line};
 ghost use Rattle.printed_text.specs.TextAppended.{TextAppended};
 
-// The decimal digits of `number`.
+// The decimal digits of `number`. By hand: std prints a number to a writer or a String only, and the crate `itoa` would be trusted beside std.
 #[tactic(auto, using(crate::proofs::Laws::digits))]
 fn append_digits(text: &mut [u8], at: usize, number: u64) -> usize
     requires { at + 20 ≤ length text.old }
@@ -22,7 +22,8 @@ fn append_digits(text: &mut [u8], at: usize, number: u64) -> usize
     p + 1
 }
 
-// Numbers, each behind a blank.
+// Numbers, each behind a blank. Text and place stay two parameters: of a struct that holds the lent text, nothing is known of the lender's bytes
+// at its end.
 #[tactic(auto, using(crate::proofs::Laws::lines))]
 fn append_numbers(text: &mut [u8], at: usize, numbers: &[u64]) -> usize
     requires { at + 21 * length numbers.now ≤ length text.old }

@@ -23,7 +23,7 @@ pub fn base(bytes: &[u8], place: usize) -> usize
     RECORD_LENGTH * place
 }
 
-// The record at a place.
+// The record at a place. No From of its 40 bytes, as neither type is this crate's own.
 pub fn record(bytes: &[u8], place: usize) -> Record
     requires { place < length (decode bytes.now) }
     ensures { result ≡ at (decode bytes.now) place }

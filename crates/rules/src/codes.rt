@@ -1,4 +1,5 @@
-// The codes of faults, under the names of the Rust's `ErrorCode`. Those of Size, Count and ElementSize are three each, and pass 5 counts from
+// The codes of faults, under the names of the Rust's `ErrorCode`. They stay numbers: a fault holds its code as two bytes, the definitions
+// state numbers, and nothing matches on a code. Those of Size, Count and ElementSize are three each, and pass 5 counts from
 // the first.
 pub const DUPLICATE_DECL_IDENTIFIER: u16 = 1;
 
