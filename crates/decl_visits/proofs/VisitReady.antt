@@ -79,19 +79,6 @@ unfolding walk
 walk-last v [] r s = refl
 walk-last v (a ∷ l) r s = walk-last v l r (resolve v a s)
 
-visit-new : (rs : List Record) (k d : ℕ) (s : State) → mark_of s d ≡ 0
-    → visit (suc k) (references rs) d s ≡ listed d (taken_up rs (own_reference rs d) k (walked rs (d + 1) k (opened d s)))
-unfolding visit enter references
-visit-new rs k d s e = grind (arith, common_steps, walk-last (visit k (references rs)) (field_references rs (d + 1) (length rs - (d + 1))) (own_reference rs d) (opened d s))
-
-visit-open : (f : ℕ → List Reference) (k d : ℕ) (s : State) → mark_of s d ≡ 1 → visit (suc k) f d s ≡ faulted 2 d s
-unfolding visit enter
-visit-open f k d s e = grind (arith, common_steps)
-
-visit-listed : (f : ℕ → List Reference) (k d : ℕ) (s : State) → ¬ (mark_of s d ≡ 0) → ¬ (mark_of s d ≡ 1) → visit (suc k) f d s ≡ s
-unfolding visit enter
-visit-listed f k d s e g = grind (arith, common_steps)
-
 -- a field of a kind that refers to nothing
 nowhere : (rs : List Record) (p : ℕ) → may_refer (at rs p).kind ≡ false → field_reference rs p ≡ Nowhere
 unfolding field_reference
@@ -168,12 +155,14 @@ module _ (rs : List Record) {a : VisitProgress} {f : List ℕ} where
         sym (get_or-take (length rs) a.marks d 0 l) ∙ same-default (take (length rs) a.marks) d 0 2 z ∙ ap (λ (x : List ℕ). get_or x d 2) e.marks_are
 
     pub ret-open : {a' : VisitProgress} {f' : List ℕ} → get_or a.marks d 0 ≡ 1 → Noted rs a f 2 d a' f' → Visited rs (Follow d) a f a' f'
+    unfolding visit enter
     ret-open e n zero f₀ s u i = absurd (omega arith)
-    ret-open e n (suc k) f₀ s u i = rw (visit-open (references rs) k d s (sym (mark-held i) ∙ e)) (held-note rs i n)
+    ret-open e n (suc k) f₀ s u i = grind (arith, common_steps, held-note rs i n, mark-held i)
 
     pub ret-listed : ¬ (get_or a.marks d 0 ≡ 0) → ¬ (get_or a.marks d 0 ≡ 1) → Visited rs (Follow d) a f a f
+    unfolding visit enter
     ret-listed e n zero f₀ s u i = absurd (omega arith)
-    ret-listed e n (suc k) f₀ s u i = rw (visit-listed (references rs) k d s (λ z. e (mark-held i ∙ z)) (λ z. n (mark-held i ∙ z))) i
+    ret-listed e n (suc k) f₀ s u i = grind (arith, common_steps, mark-held i)
 
     module _ (e : get_or a.marks d 0 ≡ 0) where
       one-less : unvisited_count h.state.marks ≡ suc (unvisited_count (set h.state.marks d 1))
@@ -227,12 +216,13 @@ module _ (rs : List Record) {a : VisitProgress} {f : List ℕ} where
                 (omega arith, omega arith)
 
             pub ret-new : {a' : VisitProgress} → a' ≡ listing d c → Visited rs (Follow d) a f a' o
+            unfolding visit enter references
             ret-new p zero f₀ s u i = absurd (omega arith)
             ret-new p (suc k) f₀ s u i =
                 let n = fewer in
                 let m = walked-falls in
-                rw (p, visit-new rs k d s (sym (mark-held i) ∙ e), ← qe)
-                (held-list rs (v k f₀ _ (omega arith) (w k f₀ (opened d s) (omega arith) (held-open rs i l))) l)
+                let z = held-list rs (v k f₀ (walked rs (d + 1) k (opened d s)) (omega arith) (w k f₀ (opened d s) (omega arith) (held-open rs i l))) l in
+                grind (arith, common_steps, z, mark-held i, walk-last (visit k (references rs)) (field_references rs (d + 1) (length rs - (d + 1))) (own_reference rs d) (opened d s))
 
 -- ---- the loop over the fields
 

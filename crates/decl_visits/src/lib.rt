@@ -30,6 +30,7 @@ pub struct VisitProgress {
 
 impl VisitProgress {
     // Nothing is visited yet.
+    #[tactic(auto, unfolding(crate::specs::Contract::started))]
     pub fn new() -> Self
         ensures { result ≡ started }
     {
@@ -37,7 +38,7 @@ impl VisitProgress {
             marks: [UNVISITED; MOST_RECORDS],
             places: [0; MOST_RECORDS],
             listed: 0,
-            tally: faults::no_faults(),
+            tally: Tally { kept: 0, total: 0 },
         }
     }
 
