@@ -22,6 +22,7 @@ fn redundant_size(table: &[Record], place: usize, found: Option<usize>) -> Optio
 
 // The fault of the array at `place`, if any.
 #[tactic(auto, unfolding(rules::specs::ArrayFields::pass8_at))]
+#[inline(never)]
 pub fn at_place(table: &[Record], place: usize) -> Option<Fault>
     ensures { option_to_list result ≡ pass8_at table.now place }
 {

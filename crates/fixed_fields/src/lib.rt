@@ -31,6 +31,7 @@ fn enum_fault(table: &[Record], place: usize, found: Option<usize>) -> Option<Fa
 
 // The fault of the fixed field at `place`, if any.
 #[tactic(auto, unfolding(rules::specs::FixedFields::pass6_at))]
+#[inline(never)]
 pub fn at_place(names: &Names, place: usize) -> Option<Fault>
     ensures { option_to_list result ≡ pass6_at names.now.table.now place }
 {

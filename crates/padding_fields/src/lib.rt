@@ -22,6 +22,7 @@ fn not_after_array(table: &[Record], place: usize, found: Option<usize>) -> Opti
 
 // The fault of the padding at `place`, if any.
 #[tactic(auto, unfolding(rules::specs::PaddingFields::pass9_at))]
+#[inline(never)]
 pub fn at_place(table: &[Record], place: usize) -> Option<Fault>
     ensures { option_to_list result ≡ pass9_at table.now place }
 {

@@ -34,7 +34,8 @@ fn is_among(kinds: u64, kind: u8) -> bool
     (kinds >> (kind % 64)) % 2 == 1
 }
 
-// All faults that `found_at` finds, at most two a place. It finds none where the kind of the record is not among `kinds`.
+// All faults that `found_at` finds, at most two a place. It finds none where the kind of the record is not among `kinds`. What few
+// places need is not inlined, so that this loop stays short.
 fn run_places<F: Fn(usize) -> (Option<Fault>, Option<Fault>)>(
     table: &[Record],
     kinds: u64,
@@ -127,7 +128,8 @@ fn sizes(
 pub fn check_size_fields(table: &[Record], buffer: &mut [u8]) -> Tally
     ensures { log result buffer.new ≡ logged buffer.old (pass5 table.now) }
 {
-    if !is_large(table) {
+    // Without a size there is nothing to fill arrays for.
+    if !is_large(table) || !table.iter().any(|r| kinds::is_size(r.kind)) {
         return sizes(table, &[], &[], &[], buffer);
     }
     let repeated = marks(table, Compared::Sizes);
@@ -153,7 +155,7 @@ fn fixed_values(names: &Names, buffer: &mut [u8]) -> Tally
 pub fn check_fixed_fields(table: &[Record], buffer: &mut [u8]) -> Tally
     ensures { log result buffer.new ≡ logged buffer.old (pass6 table.now) }
 {
-    if !is_large(table) {
+    if !is_large(table) || !table.iter().any(|r| r.kind == kinds::FIXED_ENUM) {
         return fixed_values(&Names::new(table), buffer);
     }
     let mut starts = [NO_PLACE; REMAINDERS];

@@ -66,6 +66,7 @@ fn missing_payload(table: &[Record], parents: &[bool], decl: usize) -> Option<Fa
 
 // The fault of the Payload, Body or declaration at `place`, if any. `parents` says which names a child with a field may give for its parent.
 #[tactic(auto, unfolding(rules::specs::PayloadFields::pass7_at))]
+#[inline(never)]
 pub fn at_place(table: &[Record], parents: &[bool], place: usize) -> Option<Fault>
     requires { Parents table.now parents.now }
     ensures { option_to_list result ≡ pass7_at table.now place }

@@ -10,6 +10,7 @@ use rules::{Fault, codes};
 
 // The fault of the declaration at `place` if its name is repeated.
 #[tactic(auto, unfolding(rules::specs::Scopes::pass1_at, rules::specs::Scopes::redeclared))]
+#[inline(never)]
 pub fn at_place(names: &Names, place: usize) -> Option<Fault>
     ensures { option_to_list result ≡ pass1_at names.now.table.now place }
 {
