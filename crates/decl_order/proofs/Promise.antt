@@ -117,21 +117,16 @@ module _ (rs : List Record) where
   follow-follows : (d e : ℕ) → Declared rs d → Memᴰ (Follow e) (references rs d) → Follows rs d e
   follow-follows d e dd m = ⊎_elim (λ h. field-follows dd h.1 h.2) (own-follows dd) (references-of d m)
 
-  follows-declared : {d e : ℕ} → Follows rs d e → Declared rs e
-  follows-declared (by_group p dd h k n) = n.0
-  follows-declared (by_type p dd h k n) = n.0
-  follows-declared (by_parent dd k n) = n.0
-
-  starts-declared : {d e : ℕ} → Follows rs d e → Declared rs d
-  starts-declared (by_group p dd h k n) = dd
-  starts-declared (by_type p dd h k n) = dd
-  starts-declared (by_parent dd k n) = dd
+  follows-ends : {d e : ℕ} → Follows rs d e → Declared rs d × Declared rs e
+  follows-ends (by_group p dd h k n) = (dd, n.0)
+  follows-ends (by_type p dd h k n) = (dd, n.0)
+  follows-ends (by_parent dd k n) = (dd, n.0)
 
   reaches-sequence : {d e : ℕ} → Declared rs d → Reaches (references rs) d e → Sequence rs d e
   reaches-sequence {d} {e} dd (one m) = last (follow-follows d e dd m)
   reaches-sequence {d} dd (step {x = x} m w) =
       let f = follow-follows d x dd m in
-      next f (reaches-sequence (follows-declared f) w)
+      next f (reaches-sequence (follows-ends f).1 w)
 
   -- ---- the roots
 
@@ -149,7 +144,7 @@ module _ (rs : List Record) where
   declared-root d m = let h = roots-of (length rs) 0 (Follow d) m in let l = h.1 in follow-declared {p = h.0} (omega arith) h.2
 
   closed : (d e : ℕ) → Memᴰ (Follow d) roots → Memᴰ (Follow e) (references rs d) → Memᴰ (Follow e) roots
-  closed d e m n = root-declared e (follows-declared (follow-follows d e (declared-root d m) n))
+  closed d e m n = root-declared e (follows-ends (follow-follows d e (declared-root d m) n)).1
 
   below : (d : ℕ) → Memᴰ (Follow d) roots → d < length rs
   below d m = (declared-root d m).0
@@ -238,8 +233,8 @@ module _ (rs : List Record) where
       sequence-reaches {d} (next {x = x} w q) = step (follows-follow d x w) (sequence-reaches q)
 
     sequence-declared : {d e : ℕ} → Sequence rs d e → Declared rs d
-    sequence-declared (last w) = starts-declared w
-    sequence-declared (next w q) = starts-declared w
+    sequence-declared (last w) = (follows-ends w).0
+    sequence-declared (next w q) = (follows-ends w).0
 
     pub promise : OrderingPromise rs
     unfolding order visited

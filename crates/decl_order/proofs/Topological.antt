@@ -220,20 +220,7 @@ module _ (n : ℕ) (f : ℕ → List Reference) (roots : List Reference)
   in_order = through.done.inv.ordered
 
   pub topological : TopologicalOrder f roots (visit_all n f roots).order
-  topological =
-      let i = through.done.inv in
-      record {
-        each = λ d m. i.listed_in d (below d m) (through.all d m);
-        only = i.declared;
-        once = once i.ordered;
-        after = after i.ordered;
-      }
+  topological = grind (arith, common_steps, through, once through.done.inv.ordered, after through.done.inv.ordered)
 
   pub faultless : Faultless f roots
-  faultless =
-      let i = through.done.inv in
-      record {
-        right-roots = through.right;
-        right = λ d m. right-in i.ordered d (i.listed_in d (below d m) (through.all d m));
-        acyclic = λ d m. acyclic-in i.ordered d (i.listed_in d (below d m) (through.all d m));
-      }
+  faultless = grind (arith, common_steps, through, right-in through.done.inv.ordered, acyclic-in through.done.inv.ordered)

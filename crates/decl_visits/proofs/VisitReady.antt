@@ -1,13 +1,13 @@
 -- What the cycle of visit and walk needs at each call and each return, over lists and numbers. Assumes nothing.
 use Rattle.std.proofs.lemmas.Grind.{common_steps}
-use mathlib.Core.Path.{◌≡◌, refl, sym, ◌∙◌, ap}
+use mathlib.Core.Path.{◌≡◌, refl, sym, ◌∙◌}
 use mathlib.Core.Bool.{true, false}
 use mathlib.Core.List.{List, [], ◌∷◌, ◌++◌, map, map-append}
 use Prim.Native.Nat.{ℕ, zero, suc, ◌+◌, ◌*◌, ◌-◌, ◌^◌, ◌<◌, ◌≤◌}
 use native.Mathlib.Nat.{zero-add}
 use native.Mathlib.Omega.{arith}
 use lib.ListN.{length, get_or, set, take, length-set, length-map}
-use lib.Seq.{sets, get_or-take, take-set-lt, drop-set-lt}
+use lib.Seq.{sets, take-set-lt, drop-set-lt}
 use Rattle.std.specs.Prelude.{Some, ℕ}
 use Rattle.rules.specs.Kinds.{is_decl, may_refer}
 use Rattle.rules.specs.Table.{at}
@@ -150,9 +150,7 @@ module _ (rs : List Record) {a : VisitProgress} {f : List ℕ} where
   module _ {d : ℕ} (l : d < length rs) (h : VisitReady rs a f 1 0) where
     -- the mark that is read
     mark-held : {f₀ : List ℕ} {s : State} → StateHeld rs f₀ s a f → get_or a.marks d 0 ≡ mark_of s d
-    mark-held e =
-        let z : d < length (take (length rs) a.marks) = rw (h.held.marks_are, h.size) l in
-        sym (get_or-take (length rs) a.marks d 0 l) ∙ same-default (take (length rs) a.marks) d 0 2 z ∙ ap (λ (x : List ℕ). get_or x d 2) e.marks_are
+    mark-held e = grind (arith, common_steps, h.held.marks_are, h.size, e.marks_are, same-default (take (length rs) a.marks) d 0 2)
 
     pub ret-open : {a' : VisitProgress} {f' : List ℕ} → get_or a.marks d 0 ≡ 1 → Noted rs a f 2 d a' f' → Visited rs (Follow d) a f a' f'
     unfolding visit enter
