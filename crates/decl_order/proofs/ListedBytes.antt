@@ -1,10 +1,11 @@
 -- The listed declarations as bytes: what stands at their places in a table of bytes decodes to the records that pass 2 lists. Assumes nothing.
+use Rattle.std.proofs.lemmas.Grind.{common_steps}
 use Prim.Native.Nat.{ℕ, zero, suc, ◌+◌, ◌*◌, ◌/◌, ◌<◌, ◌≤◌}
 use mathlib.Core.Path.{◌≡◌, refl, sym, ap, ◌∙◌}
 use mathlib.Core.List.{List, [], ◌∷◌, ◌++◌, Memᴰ}
-use native.Mathlib.Nat.{zero-add, suc-add}
+use native.Mathlib.Nat.{suc-add}
 use native.Mathlib.Omega.{arith}
-use lib.ListN.{length, get_or, take, drop, length-append, length-drop, take-append-drop, get_or-append}
+use lib.ListN.{length, take, drop, length-append, length-drop, take-append-drop, get_or-append}
 use lib.Seq.{length-take-le, take_at, drop_at, drop-append-le}
 use Rattle.rules.specs.Bytes.{number_at}
 use Rattle.rules.specs.Table.{record_at, records, decode}
@@ -27,18 +28,12 @@ number_at-append xs ys zero i h = refl
 number_at-append xs ys (suc w) i h = rw (get_or-append xs ys 0 i (omega arith), number_at-append xs ys w (i + 1) (omega arith))
 
 record-append : (xs ys : List ℕ) → 40 ≤ length xs → record_at (xs ++ ys) 0 ≡ record_at xs 0
-record-append xs ys h =
-    let at1 : get_or (xs ++ ys) 0 0 ≡ get_or xs 0 0 = get_or-append xs ys 0 0 (omega arith) in
-    let at2 : get_or (xs ++ ys) 1 0 ≡ get_or xs 1 0 = get_or-append xs ys 0 1 (omega arith) in
-    let n : (w i : ℕ) → i + w ≤ 40 → number_at (xs ++ ys) i w ≡ number_at xs i w = λ w i l. number_at-append xs ys w i (omega arith) in
-    rw (at1, at2, n 2 2 (omega arith), n 2 4 (omega arith), n 2 6 (omega arith), n 8 8 (omega arith), n 8 16 (omega arith), n 2 24 (omega arith), n 4 28 (omega arith), n 4 32 (omega arith))
+record-append xs ys h = grind (arith, common_steps, get_or-append xs ys 0, number_at-append xs ys)
 
 records-append : (m k : ℕ) (xs ys : List ℕ) → length xs ≡ 40 * m → records (m + k) (xs ++ ys) ≡ records m xs ++ records k ys
 unfolding records
-records-append zero k [] ys e = rw (zero-add k)
-records-append zero k (x ∷ xs) ys e = absurd (omega arith)
-records-append (suc m) k xs ys e =
-    rw (suc-add m k, records, record-append xs ys (omega arith), drop-append-le 40 xs ys (omega arith), records-append m k (drop 40 xs) ys (length-drop 40 xs ∙ omega arith))
+records-append zero k xs ys e = grind (arith, common_steps)
+records-append (suc m) k xs ys e = grind (arith, common_steps, record-append xs ys, records-append m k (drop 40 xs) ys, length-drop 40 xs, suc-add m k, drop-append-le 40 xs ys)
 
 decode-append : (m : ℕ) (xs ys : List ℕ) → length xs ≡ 40 * m → decode (xs ++ ys) ≡ decode xs ++ decode ys
 unfolding decode
@@ -70,14 +65,11 @@ module _ (t : List ℕ) (d : ℕ) (l : d < length (decode t)) where
 
   bytes-decode : decode (decl_bytes t d) ≡ decl_records (decode t) d
   unfolding decl_bytes decl_records
-  bytes-decode =
-      decode-take (drop (40 * d) t) (1 + member_count (decode t) d) (omega (arith, place_in, length-drop (40 * d) t))
-      ∙ ap (take (1 + member_count (decode t) d)) (decode-drop t d (omega (arith, place_in)))
+  bytes-decode = grind (arith, common_steps, decode-take (drop (40 * d) t) (1 + member_count (decode t) d), decode-drop t d, place_in, length-drop (40 * d) t)
 
 pub all-decode : (t l : List ℕ) → ((d : ℕ) → Memᴰ d l → d < length (decode t)) → decode (all_bytes t l) ≡ all_records (decode t) l
 unfolding all_bytes all_records decode records
 all-decode t [] h = refl
 all-decode t (d ∷ l) h =
     let i = h d (Memᴰ.head refl) in
-    decode-append (1 + member_count (decode t) d) (decl_bytes t d) (all_bytes t l) (bytes-length t d i)
-    ∙ rw (bytes-decode t d i, all-decode t l (λ e m. h e (Memᴰ.tail m)))
+    grind (arith, common_steps, decode-append (1 + member_count (decode t) d) (decl_bytes t d) (all_bytes t l), bytes-length t d i, bytes-decode t d i, all-decode t l (λ e m. h e (Memᴰ.tail m)))
