@@ -1,6 +1,6 @@
 -- The inlined table, and the table written with one buffer or another. Assumes nothing.
 use Rattle.std.proofs.Common.{Option, None, Some, Result, Ok, Err}
-use Prim.Native.Nat.{ℕ, ◌*◌, ◌<◌, ◌≤◌}
+use Prim.Native.Nat.{ℕ, ◌<◌, ◌≤◌}
 use mathlib.Core.Path.{◌≡◌, refl, sym, ap, ◌∙◌}
 use mathlib.Core.List.{List}
 use native.Mathlib.Omega.{arith}

@@ -8,8 +8,8 @@ ghost use Rattle.group_sizes.specs.GroupsFirst.{GroupsFirst};
 ghost use Rattle.accepted_table.specs.Wrote.{Wrote};
 
 use inline_groups::InlineError;
-use rules::{Record, Reply};
 use rules::limits::MOST_RECORDS;
+use rules::{Record, Reply};
 use table::FEW_RECORDS;
 
 // As many records as most small tables fit inlined.

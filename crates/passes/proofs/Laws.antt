@@ -1,6 +1,6 @@
 -- Laws of the passes in their order: what each row of the replies asks of the faults found. Assumes nothing.
 use Rattle.std.proofs.Common.{None, Option, Some, Result, Ok, Err}
-use Prim.Native.Nat.{ℕ, suc, ◌+◌, ◌*◌, ◌<◌, ◌≤◌}
+use Prim.Native.Nat.{ℕ, suc, ◌+◌, ◌<◌, ◌≤◌}
 use mathlib.Core.Path.{◌≡◌, refl, sym, ap, ◌∙◌}
 use mathlib.Core.List.{List, [], ◌∷◌}
 use mathlib.Core.Bool.{Bool, true, false}

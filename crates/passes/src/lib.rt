@@ -21,7 +21,12 @@ fn check_listed(listed: &[Record], table: &mut [u8], faults: &mut [u8]) -> Reply
 }
 
 // Pass 2, on a table without faults in pass 1, then what follows on the table that it lists.
-fn check_order(input: &[Record], listed: &mut [Record], table: &mut [u8], faults: &mut [u8]) -> Reply
+fn check_order(
+    input: &[Record],
+    listed: &mut [Record],
+    table: &mut [u8],
+    faults: &mut [u8],
+) -> Reply
     requires { (length input.now ≤ 1600) × (length input.now ≤ length listed.old) × (pass1 input.now ≡ []) }
     ensures { answered result table.new faults.new ≡ by_passes input.now table.old faults.old }
 {
@@ -32,7 +37,12 @@ fn check_order(input: &[Record], listed: &mut [Record], table: &mut [u8], faults
 }
 
 // Passes 1 and 2, then what follows.
-pub fn check_passes(input: &[Record], listed: &mut [Record], table: &mut [u8], faults: &mut [u8]) -> Reply
+pub fn check_passes(
+    input: &[Record],
+    listed: &mut [Record],
+    table: &mut [u8],
+    faults: &mut [u8],
+) -> Reply
     requires { (length input.now ≤ 1600) × (length input.now ≤ length listed.old) }
     ensures { answered result table.new faults.new ≡ by_passes input.now table.old faults.old }
 {

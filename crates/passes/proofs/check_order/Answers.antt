@@ -1,6 +1,5 @@
 -- `passes::check_order` meets its contract: pass 2 finds faults, or lists the table that the rest reads. Assumes nothing.
-use Rattle.std.proofs.Common.{arith}
-use Rattle.passes.proofs.Laws.{faulty-order, listed-few, listed-ready, listed_answer}
+use Rattle.passes.proofs.Laws.{faulty-order, listed-ready, listed_answer}
 use Rattle.passes.proofs.check_order.Goals as goal
 
 pub returns-in-Err : goal.returns-in-Err
