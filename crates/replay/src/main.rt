@@ -9,6 +9,9 @@ use rules::limits::{FAULT_LENGTH, MOST_RECORDS, TABLE_LENGTH};
 use rules::{LayoutError, Record, Reply, Tally};
 use std::io::{Input, Print, Read};
 
+// No record has this kind.
+const NO_KIND: u8 = 255;
+
 // The row of the layout's reply, 0 for a sound layout, and the place.
 fn print_layout<R: Print>(rt: &R, layout: Result<(), LayoutError>) {
     match layout {
@@ -68,12 +71,20 @@ fn print_order<R: Print>(rt: &R, input: &[u8], faults: &mut [u8], out: &mut [u8]
     if out.len() < TABLE_LENGTH {
         return;
     }
-    let mut listed = [Record::default(); MOST_RECORDS];
+    let unlisted = Record {
+        kind: NO_KIND,
+        ..Record::default()
+    };
+    let mut listed = [unlisted; MOST_RECORDS];
     let (count, tally) = match order(input, faults, &mut listed) {
         None => return,
         Some(Ok(count)) => (count, faults::no_faults()),
         Some(Err(tally)) => (0, tally),
     };
+    // A record written too many ends the case, so that the output differs.
+    if listed[count..].iter().any(|r| r.kind != NO_KIND) {
+        return;
+    }
     replay_cases::fill(out);
     write(out, &listed[..count]);
     print_faults(rt, tally, faults, b' ');
