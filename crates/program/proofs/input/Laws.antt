@@ -20,7 +20,7 @@ use Rattle.rules.specs.declared.LayoutError.TheVariants as layouts
 use Rattle.std.proofs.Common.{Err}
 use Rattle.rules.specs.declared.Reply.TheVariants.{Uneven, TooLong}
 use Rattle.store.proofs.Laws.{length-written}
-use Rattle.table.proofs.Laws.{length-decode}
+use Rattle.records.proofs.Laws.{length-decode}
 use Rattle.program.specs.Inputs.{short_length, StandsFor}
 
 pub short-same : (n : ℕ) → n ≤ 64040 → short_length n ≡ n
