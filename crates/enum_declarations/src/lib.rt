@@ -9,7 +9,7 @@ ghost use Rattle.rules.specs.EnumDeclarations.{tags_faults, enum_faults, pass4_a
 ghost use Rattle.faults.specs.Notes.{noted_all};
 
 use enum_tags::{EnumTags, MarkedTags};
-use repeats::marks::Compared;
+use repeats::marks::{Compared, marks_of};
 use rules::limits::MOST_RECORDS;
 use rules::{Record, Tally};
 
@@ -109,15 +109,13 @@ fn check_all(table: &[Record], buffer: &mut [u8]) -> Tally
     requires { length table.now ≤ 1600 }
     ensures { log result buffer.new ≡ logged buffer.old (pass4 table.now) }
 {
-    let mut names = [true; MOST_RECORDS];
-    let mut values = [true; MOST_RECORDS];
+    let names = marks_of(table, Compared::TagNames);
+    let values = marks_of(table, Compared::TagValues);
     let mut room = Room {
         places: [0; MOST_RECORDS],
         lows: [0; MOST_RECORDS],
         highs: [0; MOST_RECORDS],
     };
-    repeats::marks::mark(table, Compared::TagNames, &mut names);
-    repeats::marks::mark(table, Compared::TagValues, &mut values);
     let marked = MarkedTags {
         table,
         names: &names,

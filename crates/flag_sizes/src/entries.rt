@@ -6,7 +6,7 @@ ghost use Rattle.rules.specs.DesugarFlags.{entries_at, entries_from};
 use crate::conditions;
 use rules::Record;
 
-// The entries of the conditions that name `flag`, from `place` to the end of the declaration.
+// The entries of the conditions that name `flag`, from `place` to the end of the declaration, which is tested for as in the walk of the visits.
 #[derive(Clone, Copy)]
 pub struct Naming<'a> {
     pub table: &'a [Record],

@@ -13,7 +13,7 @@ use entries::{Naming, Standing};
 use rules::Record;
 use table::DIVISOR;
 
-// Stamps the remainders of the names that the conditions of a declaration give. Its members start at `from`, which is the stamp: no other
+// Stamps the remainders of the names that the conditions of a declaration give, whose end it tests for as the walk of the visits does. Its members start at `from`, which is the stamp: no other
 // declaration has it.
 #[tactic(auto, using(crate::proofs::Laws::entries_steps))]
 fn mark_conditions(table: &[Record], from: usize, marks: &mut [u16])

@@ -21,7 +21,7 @@ ghost use Rattle.pass_faults.specs.Listed.{is_among, Lists};
 use declarations::Names;
 use declarations::starts::is_large;
 use faults::notes::note_found;
-use repeats::marks::Compared;
+use repeats::marks::{Compared, marks_of};
 use rules::limits::MOST_RECORDS;
 use rules::{Fault, Record, Tally};
 use table::{NO_PLACE, REMAINDERS};
@@ -72,7 +72,7 @@ fn scopes(names: &Names, buffer: &mut [u8]) -> Tally
 pub fn check_scopes(table: &[Record], buffer: &mut [u8]) -> Tally
     ensures { log result buffer.new ≡ logged buffer.old (pass1 table.now) }
 {
-    // An Option of the array, as one function of the table, would clear it for small tables, too, which takes them as long again.
+    // An Option of the array would be cleared for small tables, too: twice the instructions for one of 7 records.
     if !is_large(table) {
         return scopes(&Names::new(table), buffer);
     }
@@ -80,23 +80,15 @@ pub fn check_scopes(table: &[Record], buffer: &mut [u8]) -> Tally
     scopes(&Names::with_starts(table, &mut starts), buffer)
 }
 
-// The marks of the records that may repeat an earlier one.
-fn marks(table: &[Record], what: Compared) -> [bool; MOST_RECORDS]
-    ensures { Marked table.now what result }
-{
-    let mut marks = [true; MOST_RECORDS];
-    repeats::marks::mark(table, what, &mut marks);
-    marks
-}
-
 // Pass 3.
 pub fn check_field_identifiers(table: &[Record], buffer: &mut [u8]) -> Tally
     ensures { log result buffer.new ≡ logged buffer.old (pass3 table.now) }
 {
+    // No array for a small table, as in pass 1.
     if !is_large(table) {
         return field_identifiers::check_field_identifiers(table, &[], buffer);
     }
-    let marks = marks(table, Compared::FieldNames);
+    let marks = marks_of(table, Compared::FieldNames);
     field_identifiers::check_field_identifiers(table, &marks, buffer)
 }
 
@@ -128,12 +120,12 @@ fn sizes(
 pub fn check_size_fields(table: &[Record], buffer: &mut [u8]) -> Tally
     ensures { log result buffer.new ≡ logged buffer.old (pass5 table.now) }
 {
-    // Without a size there is nothing to fill arrays for.
+    // No array for a small table, as in pass 1, nor for one without a size.
     if !is_large(table) || !table.iter().any(|r| kinds::is_size(r.kind)) {
         return sizes(table, &[], &[], &[], buffer);
     }
-    let repeated = marks(table, Compared::Sizes);
-    let elements = marks(table, Compared::ElementSizes);
+    let repeated = marks_of(table, Compared::Sizes);
+    let elements = marks_of(table, Compared::ElementSizes);
     let mut starts = [NO_PLACE; MOST_RECORDS];
     size_fields::starts::fill(table, &mut starts);
     sizes(table, &repeated, &elements, &starts, buffer)
@@ -155,6 +147,7 @@ fn fixed_values(names: &Names, buffer: &mut [u8]) -> Tally
 pub fn check_fixed_fields(table: &[Record], buffer: &mut [u8]) -> Tally
     ensures { log result buffer.new ≡ logged buffer.old (pass6 table.now) }
 {
+    // No array for a small table, as in pass 1, nor for one without an enum to look up.
     if !is_large(table) || !table.iter().any(|r| r.kind == kinds::FIXED_ENUM) {
         return fixed_values(&Names::new(table), buffer);
     }
@@ -179,6 +172,7 @@ fn payloads(table: &[Record], parents: &[bool], buffer: &mut [u8]) -> Tally
 pub fn check_payload_fields(table: &[Record], buffer: &mut [u8]) -> Tally
     ensures { log result buffer.new ≡ logged buffer.old (pass7 table.now) }
 {
+    // No array for a small table, as in pass 1.
     if !is_large(table) {
         return payloads(table, &[], buffer);
     }

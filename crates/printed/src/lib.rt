@@ -81,7 +81,7 @@ fn append_records(text: &mut [u8], at: usize, table: &[u8], count: usize) -> usi
     p
 }
 
-// The lines of the first `count` faults of a fault buffer.
+// The lines of the first `count` faults of a fault buffer, by number as those of records.
 #[tactic(auto, using(crate::proofs::Laws::fault_laws))]
 fn append_faults(text: &mut [u8], at: usize, faults: &[u8], count: usize) -> usize
     requires { (at + 105 * count ≤ length text.old) × (20 * count ≤ length faults.now) }

@@ -2,7 +2,7 @@
 use Rattle.std.specs.Prelude.{ℕ, ◌+◌, ◌≡◌, List, length}
 use Rattle.rules.specs.Bytes.{written}
 
--- the text b with s written over it from place i on: a name that proofs need not look behind
+-- the text b with s written over it from place i on, under a name that proofs need not unfold
 unfoldable pub put_text : List ℕ → ℕ → List ℕ → List ℕ
 put_text b i s = written b i s
 

@@ -107,3 +107,12 @@ pub fn mark(table: &[Record], what: Compared, marks: &mut [bool])
     let mut seen = [0u16; REMAINDERS];
     mark_places(table, what, &mut seen, marks);
 }
+
+// The marks of a table, with room for the longest.
+pub fn marks_of(table: &[Record], what: Compared) -> [bool; MOST_RECORDS]
+    ensures { Marked table.now what result }
+{
+    let mut marks = [true; MOST_RECORDS];
+    mark(table, what, &mut marks);
+    marks
+}

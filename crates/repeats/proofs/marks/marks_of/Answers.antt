@@ -1,7 +1,7 @@
--- `pass_faults::marks` meets its contract. Assumes nothing.
+-- `repeats::marks::marks_of` meets its contract: marks that are all true say nothing yet. Assumes nothing.
 use Rattle.std.proofs.Common.{rules}
 use Rattle.repeats.proofs.marks.Laws.{marked-all}
-use Rattle.pass_faults.proofs.marks.Goals as goal
+use Rattle.repeats.proofs.marks.marks_of.Goals as goal
 
 pub mark-requires : goal.mark-requires
 mark-requires c = (search rules, marked-all _ _ 1600)
