@@ -25,8 +25,8 @@ extern "C" {
 #define PDL_FAULT_BYTES 20    /* bytes of a fault */
 
 /* Enough stack for pdl_analyze. Measured, not proved: example.c, whose buffers are not on the stack, answers the deepest tables tried with
- * `ulimit -s 504` (KiB) in each of 40 runs, and 800 structs, each with a field of the next one's type, with 500 in some and with 492 in
- * none, as the system does not always begin the stack at the same place. The caller's buffers come on top if they are on the stack. */
+ * `ulimit -s 464` (KiB) in each of 40 runs; 1,600 structs, each the child of the next, with 456 in some and with 448 in none, as the system
+ * does not always begin the stack at the same place. The caller's buffers come on top if they are on the stack. */
 #define PDL_STACK_BYTES 1048576
 
 /* reply[0]: the row of the table of replies, from the top; the first that applies is given.
