@@ -11,7 +11,7 @@ ghost use Rattle.declarations.specs.Starts.{Starts};
 ghost use Rattle.std.proofs.Props.{props};
 
 use rules::{Record, Target};
-use table::DIVISOR;
+use table::{DIVISOR, Table};
 
 // A table, with places where the searches for the names of its declarations may start, by the remainders of the names.
 #[derive(Clone, Copy)]
@@ -30,11 +30,12 @@ impl<'a> Names<'a> {
     }
 
     // With starts, which it fills. They are lent: an Option of the array, made where the table is large, would be cleared where it is not.
-    pub fn with_starts(table: &'a [Record], starts: &'a mut [u16]) -> Self
-        requires { (length table.now ≤ 1600) × (starts.old ≡ replicate 4093 65535) }
-        ensures { result.table ≡ table.entry }
+    pub fn with_starts(table: Table<'a>, starts: &'a mut [u16]) -> Self
+        requires { starts.old ≡ replicate 4093 65535 }
+        ensures { result.table ≡ table.entry.records }
     {
         starts::fill(table, starts);
+        let table = table.records;
         Names { table, starts }
     }
 

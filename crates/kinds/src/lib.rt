@@ -71,8 +71,6 @@ pub const DEFAULT_TAG: u8 = 43;
 // Groups of kinds as numbers, a bit for each kind.
 pub const NAMED_DECLS: u64 = (2u64 << GROUP) - (1u64 << CHECKSUM);
 
-pub const NAMED_FIELDS: u64 = (2u64 << TYPEDEF) - (1u64 << ARRAY);
-
 pub const SIZES: u64 = (2u64 << ELEMENT_SIZE) - (1u64 << SIZE);
 
 pub const FIXED_FIELDS: u64 = (2u64 << FIXED_ENUM) - (1u64 << FIXED_SCALAR);

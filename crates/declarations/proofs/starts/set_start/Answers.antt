@@ -6,8 +6,8 @@ use Rattle.declarations.proofs.starts.set_start.Goals as goal
 
 pub returns-then-is_named_decl : goal.returns-then-is_named_decl
 returns-then-is_named_decl c =
-    rw c.from-h.ensures (start-here _ _ _ c.requires.0 c.requires.3 _ (ap (λ (r : Record). r.name) c.at.ensures) c.requires.2)
+    rw c.from-h.ensures (start-here _ _ _ c.requires.0 c.requires.2 _ (ap (λ (r : Record). r.name) c.at-r.ensures) c.requires.1)
 
 pub returns-else-is_named_decl : goal.returns-else-is_named_decl
 returns-else-is_named_decl c =
-    start_none _ _ _ c.requires.0 c.requires.3 (rw (← c.kind.ensures) (sym c.is_named_decl.ensures ∙ c.if-is_named_decl.false))
+    start_none _ _ _ c.requires.0 c.requires.2 (rw (← ap (λ (r : Record). r.kind) c.at-r.ensures) (sym c.is_named_decl.ensures ∙ c.if-is_named_decl.false))
