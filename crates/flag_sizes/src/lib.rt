@@ -8,13 +8,40 @@ ghost use Rattle.std.specs.Prelude.{◌≡◌, ◌+◌, ◌-◌, ◌<◌, ◌≤
 ghost use Rattle.rules.specs.Table.{at};
 ghost use Rattle.rules.specs.DesugarFlags.{members_start, entries_from, entries_of, condition_at, entries_at, desugared_at, desugared};
 ghost use Rattle.flag_sizes.specs.Counts.{ConditionsStamped, Counted};
+ghost use Rattle.std.proofs.Props.{props};
 
 use entries::{Naming, Standing};
 use rules::Record;
-use table::DIVISOR;
+use table::{DIVISOR, REMAINDERS, Table};
 
-// Stamps the remainders of the names that the conditions of a declaration give, whose end it tests for as the walk of the visits does. Its members start at `from`, which is the stamp: no other
-// declaration has it.
+// A table, with how many entries each of its places gets and how many records it becomes.
+#[derive(Clone, Copy)]
+pub struct EntryCounts<'a> {
+    pub table: Table<'a>,
+    pub counts: &'a [u16],
+    pub total: usize,
+    pub ghost counted: { Counted table.records.now counts.now (length table.records.now) } by { Prim.hlevel props },
+    pub ghost summed: { total ≡ length (desugared table.records.now) },
+}
+
+impl<'a> EntryCounts<'a> {
+    // Counts in the array that is lent.
+    pub fn new(table: Table<'a>, counts: &'a mut [u16]) -> Self
+        requires { 1600 ≤ length counts.old }
+        ensures { result.table.records ≡ table.entry.records }
+    {
+        let mut marks = [0u16; REMAINDERS];
+        let total = total(table, &mut marks, counts);
+        EntryCounts {
+            table,
+            counts,
+            total,
+        }
+    }
+}
+
+// Stamps the remainders of the names that the conditions of a declaration give, whose end it tests for as the walk of the visits does. Its
+// members start at `from`, which is the stamp: no other declaration has it.
 #[tactic(auto, using(crate::proofs::Laws::entries_steps))]
 fn mark_conditions(table: &[Record], from: usize, marks: &mut [u16])
     requires { (from ≤ 1600) × (4093 ≤ length marks.old) }
@@ -79,16 +106,16 @@ fn count_condition(table: &[Record], place: usize) -> usize
 
 // How many records the record at `place` becomes, for which so many entries are made.
 #[tactic(auto, using(crate::proofs::Laws::size_laws))]
-fn size_at(table: &[Record], place: usize, made: usize) -> usize
-    requires { (length table.now ≤ 1600) × (place < length table.now) × (made ≡ length (entries_of table.now (at table.now place) (members_start table.now place))) }
-    ensures { result ≡ length (desugared_at table.now place) }
+fn size_at(table: Table, place: usize, made: usize) -> usize
+    requires { (place < length table.records.now) × (made ≡ length (entries_of table.records.now (at table.records.now place) (members_start table.records.now place))) }
+    ensures { result ≡ length (desugared_at table.entry.records.now place) }
 {
-    if kinds::is_condition_or_entry(table::kind(table, place)) {
+    if kinds::is_condition_or_entry(table::kind(table.records, place)) {
         return 0;
     }
-    let c = count_condition(table, place);
+    let c = count_condition(table.records, place);
     if made == 0 {
-        let own = count_own(table, place + 1 + c);
+        let own = count_own(table.records, place + 1 + c);
         return 1 + c + own;
     }
     1 + c + made
@@ -110,18 +137,18 @@ fn mark_next(table: &[Record], place: usize, members: usize, marks: &mut [u16]) 
 
 // How many records the whole table becomes. The numbers of entries are kept by place, so that writing need not count again.
 #[tactic(auto, using(crate::proofs::Laws::total_laws))]
-pub fn total(table: &[Record], marks: &mut [u16], counts: &mut [u16]) -> usize
-    requires { (length table.now ≤ 1600) × (4093 ≤ length marks.old) × (1600 ≤ length counts.old) }
-    ensures { (result ≡ length (desugared table.now)) × Counted table.now counts.new (length table.now) }
+fn total(table: Table, marks: &mut [u16], counts: &mut [u16]) -> usize
+    requires { (4093 ≤ length marks.old) × (1600 ≤ length counts.old) }
+    ensures { (result ≡ length (desugared table.entry.records.now)) × Counted table.entry.records.now counts.new (length table.entry.records.now) }
 {
     let mut n = 0;
     let mut a = 0;
-    mark_conditions(table, 0, marks);
-    for p in 0..table.len() {
-        let made = count_made(table, marks, p, a);
+    mark_conditions(table.records, 0, marks);
+    for p in 0..table.records.len() {
+        let made = count_made(table.records, marks, p, a);
         counts[p] = made as u16;
         n += size_at(table, p, made);
-        a = mark_next(table, p, a, marks);
+        a = mark_next(table.records, p, a, marks);
     }
     n
 }

@@ -1,2 +1,1 @@
 pub mod RecordsAppended
-pub mod Writing

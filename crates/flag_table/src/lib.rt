@@ -4,11 +4,11 @@
 ghost use Rattle.std.specs.Prelude.{◌≡◌, [], ◌∷◌, ◌++◌, ◌+◌, ◌-◌, ◌<◌, ◌≤◌, length};
 ghost use Rattle.rules.specs.Bytes.{written};
 ghost use Rattle.rules.specs.Table.{encode};
-ghost use Rattle.rules.specs.DesugarFlags.{entries_from, flag_of, condition_at, entries_at, own_entries, desugared_at, desugared};
-ghost use Rattle.flag_sizes.specs.Counts.{Counted};
-ghost use Rattle.flag_table.specs.Writing.{WritingAt};
+ghost use Rattle.rules.specs.DesugarFlags.{members_start, entries_from, flag_of, condition_at, entries_at, own_entries, desugared_at, desugared};
 ghost use Rattle.flag_table.specs.RecordsAppended.{RecordsAppended, RoomForRecords};
 
+use flag_sizes::EntryCounts;
+use flag_sizes::conditions::next_start;
 use flag_sizes::entries::{Naming, Standing};
 use rules::Record;
 
@@ -113,21 +113,22 @@ fn write_flag(
 // Writes what the record at `place` becomes.
 #[tactic(auto, using(crate::proofs::Writing::what_becomes))]
 fn write_at(
-    table: &[Record],
-    counts: &[u16],
+    counts: &EntryCounts,
     place: usize,
     members: usize,
     out: &mut [u8],
     count: usize,
 ) -> usize
-    requires { WritingAt table.now counts.now place members out.old count }
-    ensures { RecordsAppended out.old count (desugared_at table.now place) out.new result }
+    requires standing { (place < length counts.now.table.records.now) × (members ≡ members_start counts.now.table.records.now place) }
+    requires room { RoomForRecords out.old count (desugared_at counts.now.table.records.now place) }
+    ensures { RecordsAppended out.old count (desugared_at counts.now.table.records.now place) out.new result }
 {
+    let table = counts.table.records;
     let r = table::at(table, place);
     if kinds::is_condition_or_entry(r.kind) {
         return count;
     }
-    if counts[place] == 0 {
+    if counts.counts[place] == 0 {
         return write_plain(table, place, r, out, count);
     }
     write_flag(table, place, r, members, out, count)
@@ -135,14 +136,15 @@ fn write_at(
 
 // Writes the whole table.
 #[tactic(auto, using(crate::proofs::Writing::whole))]
-pub fn write_all(table: &[Record], counts: &[u16], out: &mut [u8])
-    requires { (length table.now ≤ 1600) × Counted table.now counts.now (length table.now) × RoomForRecords out.old 0 (desugared table.now) }
-    ensures { out.new ≡ written out.old 0 (encode (desugared table.now)) }
+pub fn write_all(counts: &EntryCounts, out: &mut [u8])
+    requires { RoomForRecords out.old 0 (desugared counts.now.table.records.now) }
+    ensures { out.new ≡ written out.old 0 (encode (desugared counts.now.table.records.now)) }
 {
+    let table = counts.table.records;
     let mut n = 0;
     let mut a = 0;
     for p in 0..table.len() {
-        n = write_at(table, counts, p, a, out, n);
-        a = flag_sizes::conditions::next_start(table, p, a);
+        n = write_at(counts, p, a, out, n);
+        a = next_start(table, p, a);
     }
 }

@@ -7,11 +7,11 @@ use Rattle.flag_sizes.proofs.total.Goals as goal
 
 pub overflow_add-n : goal.overflow_add-n
 overflow_add-n c =
-    grind (arith, size-more c.args.table.now c.loop-p.p, size_few c.args.table.now (c.loop-p.p + 1))
+    grind (arith, size-more c.args.table.records.now c.loop-p.p, size_few c.args.table.records.now (c.loop-p.p + 1))
 
 pub loop-p-preserved : goal.loop-p-preserved
 loop-p-preserved c = (
-  grind (arith, size-more c.args.table.now c.loop-p.p),
+  grind (arith, size-more c.args.table.records.now c.loop-p.p),
   c.mark_next-a.ensures.0,
   record { long = grind (arith, common_steps); known = λ q l. grind (arith, common_steps, c.loop-p.invariant.2.known q) },
   c.mark_next-a.ensures.1,

@@ -7,4 +7,4 @@ use Rattle.flag_sizes.proofs.total.Given as goal
 
 abbrev pub invariant-loop-p : goal.invariant-loop-p
 invariant-loop-p l =
-    (l.n ≡ size_below l.table l.p) × (l.a ≡ members_start l.table l.p) × Counted l.table l.counts l.p × ConditionsStamped l.table l.marks l.a
+    (l.n ≡ size_below l.table.records.now l.p) × (l.a ≡ members_start l.table.records.now l.p) × Counted l.table.records.now l.counts l.p × ConditionsStamped l.table.records.now l.marks l.a

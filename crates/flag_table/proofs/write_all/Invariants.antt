@@ -7,4 +7,4 @@ use Rattle.flag_table.proofs.write_all.Given as goal
 
 abbrev pub invariant-loop-p : goal.invariant-loop-p
 invariant-loop-p l =
-    RecordsAppended l.initial.out 0 (each (desugared_at l.table) l.p) l.out l.n × (l.a ≡ members_start l.table l.p)
+    RecordsAppended l.initial.out 0 (each (desugared_at l.counts.table.records.now) l.p) l.out l.n × (l.a ≡ members_start l.counts.table.records.now l.p)
