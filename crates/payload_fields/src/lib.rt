@@ -7,8 +7,8 @@ ghost use Rattle.std.specs.Prelude.{◌≡◌, length};
 ghost use Rattle.std.specs.Option.{option_to_list};
 ghost use Rattle.rules.specs.Places.{first};
 ghost use Rattle.rules.specs.PayloadFields.{second_payload, child_with_field, missing_payload, pass7_at};
-ghost use Rattle.payload_fields.specs.Parents.{Parents};
 
+use crate::parents::ParentMarks;
 use faults::when;
 use repeats::marks::mark_at;
 use rules::{Fault, Record, Target, codes};
@@ -48,13 +48,13 @@ fn child_with_field(table: &[Record], decl: usize) -> Option<usize>
 }
 
 // 37 if there is no Payload or Body and some child has a field.
-#[tactic(auto, unfolding(rules::specs::PayloadFields::missing_payload, rules::specs::Choice::when))]
-fn missing_payload(table: &[Record], parents: &[bool], decl: usize) -> Option<Fault>
-    requires { Parents table.now parents.now }
-    ensures { option_to_list result ≡ missing_payload table.now decl (first (child_with_field table.now decl) 0 (length table.now)) }
+#[tactic(auto, using(crate::proofs::Laws::none_missing), unfolding(rules::specs::PayloadFields::missing_payload, rules::specs::Choice::when))]
+fn missing_payload(parents: &ParentMarks, decl: usize) -> Option<Fault>
+    ensures { option_to_list result ≡ missing_payload parents.now.table.now decl (first (child_with_field parents.now.table.now decl) 0 (length parents.now.table.now)) }
 {
+    let table = parents.table;
     let r = table::at(table, decl);
-    if !mark_at(parents, usize::from(r.name % DIVISOR)) {
+    if !mark_at(parents.marks, usize::from(r.name % DIVISOR)) {
         return None;
     }
     if has_member(table, Target::PayloadOrDecl, decl) {
@@ -64,20 +64,20 @@ fn missing_payload(table: &[Record], parents: &[bool], decl: usize) -> Option<Fa
     Some(faults::fault::single(codes::MISSING_PAYLOAD_FIELD, r))
 }
 
-// The fault of the Payload, Body or declaration at `place`, if any. `parents` says which names a child with a field may give for its parent.
+// The fault of the Payload, Body or declaration at `place`, if any.
 #[tactic(auto, unfolding(rules::specs::PayloadFields::pass7_at))]
 #[inline(never)]
-pub fn at_place(table: &[Record], parents: &[bool], place: usize) -> Option<Fault>
-    requires { Parents table.now parents.now }
-    ensures { option_to_list result ≡ pass7_at table.now place }
+pub fn at_place(parents: &ParentMarks, place: usize) -> Option<Fault>
+    ensures { option_to_list result ≡ pass7_at parents.now.table.now place }
 {
+    let table = parents.table;
     let k = table::kind(table, place);
     if kinds::is_payload(k) {
         let found = search::first_within(table, Target::PayloadOrDecl, place);
         return second_payload(table, place, found);
     }
     if kinds::is_named_decl(k) {
-        return missing_payload(table, parents, place);
+        return missing_payload(parents, place);
     }
     None
 }
