@@ -8,9 +8,9 @@ ghost use Rattle.std.specs.Option.{option_to_list};
 ghost use Rattle.rules.specs.Table.{at};
 ghost use Rattle.rules.specs.Faults.{repeated};
 ghost use Rattle.rules.specs.EnumDeclarations.{again};
-ghost use Rattle.repeats.specs.Marks.{compared_of, target_of, Marked};
+ghost use Rattle.repeats.specs.Marks.{compared_of, target_of};
 
-use marks::Compared;
+use marks::Marks;
 use rules::{Fault, Record, Target};
 
 // A fault at `place` that points at the earlier record that a search found, if it is no declaration.
@@ -30,19 +30,15 @@ pub fn again(code: u16, table: &[Record], target: Target, place: usize) -> Optio
     repeated(code, table, place, search::nearest(table, target, place))
 }
 
-// As `again`, for what is compared of the record at `place`, without a search where the mark is false.
-pub fn again_marked(
-    code: u16,
-    table: &[Record],
-    what: Compared,
-    place: usize,
-    marks: &[bool],
-) -> Option<Fault>
-    requires { Marked table.now what marks.now }
-    ensures { option_to_list result ≡ again code table.now (target_of what (compared_of what (at table.now place))) place }
-{
-    if !marks::mark_at(marks, place) {
-        return None;
+impl Marks<'_> {
+    // As `again`, for what is compared of the record at `place`, without a search where the mark is false.
+    pub fn again(&self, code: u16, place: usize) -> Option<Fault>
+        ensures { option_to_list result ≡ again code self.now.table.now (target_of self.now.what (compared_of self.now.what (at self.now.table.now place))) place }
+    {
+        if !self.at(place) {
+            return None;
+        }
+        let target = self.what.target(&table::at(self.table, place));
+        again(code, self.table, target, place)
     }
-    again(code, table, what.target(&table::at(table, place)), place)
 }

@@ -1,10 +1,11 @@
 // Marks of the records that might repeat an earlier one of their declaration, so that the others need no search.
 ghost use Rattle.std.specs.Prelude.{◌≡◌, ◌≤◌, length, get_or, true};
 ghost use Rattle.repeats.specs.Marks.{selects, compared_of, target_of, Marked};
+ghost use Rattle.std.proofs.Props.{props};
 
 use rules::limits::MOST_RECORDS;
 use rules::{Record, Target};
-use table::{DIVISOR, REMAINDERS};
+use table::{DIVISOR, REMAINDERS, Table};
 
 // What each record of a declaration has of its own.
 #[derive(Clone, Copy)]
@@ -70,14 +71,43 @@ pub fn mark_at(marks: &[bool], place: usize) -> bool
     marks.get(place).copied().unwrap_or(true)
 }
 
+// A table, with marks of the records that may repeat what is compared of an earlier one of their declaration.
+#[derive(Clone, Copy)]
+pub struct Marks<'a> {
+    pub table: &'a [Record],
+    pub what: Compared,
+    pub marks: &'a [bool],
+    pub ghost known: { Marked table.now what marks.now } by { Prim.hlevel props },
+}
+
+impl<'a> Marks<'a> {
+    // Without marks: each record may repeat one.
+    pub fn new(table: &'a [Record], what: Compared) -> Self
+        ensures { (result.table ≡ table.entry) × (result.what ≡ what) }
+    {
+        Marks {
+            table,
+            what,
+            marks: &[],
+        }
+    }
+
+    // Whether the record at any place may repeat an earlier one.
+    pub fn at(&self, place: usize) -> bool
+        ensures { result ≡ get_or self.now.marks.now place true }
+    {
+        mark_at(self.marks, place)
+    }
+}
+
 // Each declaration has its own stamp, so that `seen` is not cleared between them. A mark becomes false where no earlier record of the
 // declaration left its stamp for the same remainder.
-fn mark_places(table: &[Record], what: Compared, seen: &mut [u16], marks: &mut [bool])
-    requires { (length table.now ≤ 1600) × (1600 ≤ length marks.old) × (4093 ≤ length seen.old) × Marked table.now what marks.old }
-    ensures { Marked table.now what marks.new }
+fn mark_places(table: Table, what: Compared, seen: &mut [u16], marks: &mut [bool])
+    requires { (1600 ≤ length marks.old) × (4093 ≤ length seen.old) × Marked table.records.now what marks.old }
+    ensures { Marked table.entry.records.now what marks.new }
 {
     let mut stamp = 0;
-    for (place, r) in table.iter().enumerate() {
+    for (place, r) in table.records.iter().enumerate() {
         let k = r.kind;
         if !what.selects(k) {
             // A choice of two numbers compiles to no branch; one on where declarations begin would be mispredicted often.
@@ -96,23 +126,14 @@ fn mark_places(table: &[Record], what: Compared, seen: &mut [u16], marks: &mut [
     }
 }
 
-// Marks that become false where no earlier record has the same name or value. A table that is too long keeps its marks.
-pub fn mark(table: &[Record], what: Compared, marks: &mut [bool])
-    requires { (1600 ≤ length marks.old) × Marked table.now what marks.old }
-    ensures { Marked table.now what marks.new }
-{
-    if MOST_RECORDS < table.len() {
-        return;
-    }
-    let mut seen = [0u16; REMAINDERS];
-    mark_places(table, what, &mut seen, marks);
-}
-
-// The marks of a table, with room for the longest.
+// The marks of a table, with room for the longest. In one that is too long each record may repeat one, and no stamps are cleared for it.
 pub fn marks_of(table: &[Record], what: Compared) -> [bool; MOST_RECORDS]
     ensures { Marked table.now what result }
 {
     let mut marks = [true; MOST_RECORDS];
-    mark(table, what, &mut marks);
+    if let Some(table) = Table::new(table) {
+        let mut seen = [0u16; REMAINDERS];
+        mark_places(table, what, &mut seen, &mut marks);
+    }
     marks
 }

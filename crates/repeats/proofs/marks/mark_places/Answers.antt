@@ -10,7 +10,7 @@ use Rattle.repeats.proofs.marks.mark_places.Goals as goal
 use Rattle.repeats.proofs.marks.mark_places.Goals.{then-is_decl, else-is_decl, then-seen-h, else-seen-h}
 
 pub loop-place-init : goal.loop-place-init
-loop-place-init c = (c.requires.3, stamped-start _ _ _ _)
+loop-place-init c = (c.requires.2, stamped-start _ _ _ _)
 
 pub loop-place-preserved-then-not-selects : goal.loop-place-preserved-then-not-selects
 unfolding at

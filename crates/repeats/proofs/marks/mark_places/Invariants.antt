@@ -3,4 +3,4 @@ use Rattle.repeats.specs.Marks.{Marked, Stamped}
 use Rattle.repeats.proofs.marks.mark_places.Given as goal
 
 abbrev pub invariant-loop-place : goal.invariant-loop-place
-invariant-loop-place l = Marked l.table l.what l.marks × Stamped l.table l.what l.seen l.stamp l.place
+invariant-loop-place l = Marked l.table.records.now l.what l.marks × Stamped l.table.records.now l.what l.seen l.stamp l.place
