@@ -7,9 +7,9 @@ ghost use Rattle.decl_order.specs.Contract.{Placed, DeclIdentifiersChecked};
 
 use decl_visits::VisitProgress;
 use declarations::Names;
-use declarations::starts::is_large;
+use declarations::starts::large;
 use rules::{Record, Tally};
-use table::{NO_PLACE, REMAINDERS};
+use table::{NO_PLACE, REMAINDERS, Table};
 
 // Copies the records of the declarations at these places to the start of out. Returns how many records they are.
 fn copy_listed(table: &[Record], places: &[u16], out: &mut [Record]) -> usize
@@ -26,7 +26,8 @@ fn copy_listed(table: &[Record], places: &[u16], out: &mut [Record]) -> usize
     count
 }
 
-// The visits, then the copy, if no fault is found.
+// The visits, then the copy, if no fault is found. The bound stays a clause here and of `visit_all`: `Names` has none, for the passes that ask
+// for none, and a second struct of names with it would be longer than the inequality.
 fn order_from(names: &Names, buffer: &mut [u8], out: &mut [Record]) -> Result<usize, Tally>
     requires { (length names.now.table.now ≤ 1600) × (length names.now.table.now ≤ length out.old) }
     ensures { DeclIdentifiersChecked names.now.table.now buffer.old out.old buffer.new out.new result }
@@ -42,18 +43,18 @@ fn order_from(names: &Names, buffer: &mut [u8], out: &mut [Record]) -> Result<us
 
 // Pass 2: its faults, or how many records are listed; they then stand at the start of out, all others of its records unchanged.
 pub fn check_decl_identifiers(
-    table: &[Record],
+    table: Table,
     buffer: &mut [u8],
     out: &mut [Record],
 ) -> Result<usize, Tally>
-    requires { (length table.now ≤ 1600) × (length table.now ≤ length out.old) }
-    ensures { DeclIdentifiersChecked table.now buffer.old out.old buffer.new out.new result }
+    requires { length table.records.now ≤ length out.old }
+    ensures { DeclIdentifiersChecked table.entry.records.now buffer.old out.old buffer.new out.new result }
 {
     // The array is made only for a large table, as those of pass_faults.
-    if !is_large(table) {
-        return order_from(&Names::new(table), buffer, out);
-    }
+    let Some(large) = large(table.records) else {
+        return order_from(&Names::new(table.records), buffer, out);
+    };
     let mut starts = [NO_PLACE; REMAINDERS];
-    let names = Names::with_starts(table, &mut starts);
+    let names = Names::with_starts(large, &mut starts);
     order_from(&names, buffer, out)
 }

@@ -7,6 +7,7 @@ ghost use Rattle.std.specs.Prelude.{◌≡◌, ℕ, ◌<◌, length};
 use rules::Record;
 use rules::limits::{FAULT_LENGTH, MOST_RECORDS};
 use std::io::Print;
+use table::Table;
 
 // The last place of the longest table, and the name of the declaration there.
 const LAST: usize = MOST_RECORDS - 1;
@@ -61,9 +62,10 @@ fn line<R: Print>(rt: &R, number: u64) {
 }
 
 // Orders the table and prints what came of it.
-fn show<R: Print>(rt: &R, table: &[Record], buffer: &mut [u8], out: &mut [Record])
-    requires { (length table.now ≡ 1600) × (length out.old ≡ 1600) }
+fn show<R: Print>(rt: &R, records: &[Record], buffer: &mut [u8], out: &mut [Record])
+    requires { (length records.now ≡ 1600) × (length out.old ≡ 1600) }
 {
+    let table = Table { records };
     let (listed, found) = match decl_order::check_decl_identifiers(table, buffer, out) {
         Ok(records) => (records, 0),
         Err(tally) => (0, tally.total),
