@@ -10,6 +10,7 @@ ghost use Rattle.rules.specs.InlineGroups.{kept, lookup, fixed_scalar, fixed_enu
 ghost use Rattle.group_constraints.specs.Constraints.{constraints_from};
 
 use rules::{Inlined, Record};
+use table::Table;
 
 // The constraint of `name` that holds: of one name the innermost, then the last.
 fn lookup(table: &[Record], env: &[u16], name: u16) -> Option<u16>
@@ -87,13 +88,14 @@ pub fn inlined_record(table: &[Record], env: &[u16], r: Record) -> Inlined
 }
 
 // Puts the places of the constraints of the field before `place` behind the first `count` of `env`. Returns how many it holds then.
-pub fn push_constraints(table: &[Record], place: usize, env: &mut [u16], count: usize) -> usize
-    requires { (length table.now ≤ 1600) × (count + length (constraints_from table.now place) ≤ length env.old) }
-    ensures { (result ≡ count + length (constraints_from table.now place)) × (take result env.new ≡ take count env.old ++ constraints_from table.now place) }
+pub fn push_constraints(table: Table, place: usize, env: &mut [u16], count: usize) -> usize
+    requires { count + length (constraints_from table.records.now place) ≤ length env.old }
+    ensures { (result ≡ count + length (constraints_from table.entry.records.now place))
+        × (take result env.new ≡ take count env.old ++ constraints_from table.entry.records.now place) }
 {
     let mut m = count;
-    for p in place..table.len() {
-        let k = table::kind(table, p);
+    for p in place..table.records.len() {
+        let k = table::kind(table.records, p);
         if k == kinds::CONSTRAINT {
             env[m] = p as u16;
             m += 1;

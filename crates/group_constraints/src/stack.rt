@@ -3,9 +3,9 @@ ghost use Rattle.std.specs.Prelude.{◌≡◌, ◌+◌, ◌≤◌, List, ℕ, []
 ghost use Rattle.group_constraints.specs.Constraints.{constraints_from};
 
 use crate::push_constraints;
-use rules::Record;
 use rules::limits::MOST_RECORDS;
 use std::marker::Model;
+use table::Table;
 
 // The places of the constraints that hold, the outermost first: as many as there are places in a table.
 #[derive(Drop)]
@@ -48,9 +48,9 @@ impl Stack {
     }
 
     // Puts the places of the constraints of the field before `place` on the stack.
-    pub fn push_constraints(&mut self, table: &[Record], place: usize)
-        requires { (length table.now ≤ 1600) × (length self.old + length (constraints_from table.now place) ≤ 1600) }
-        ensures { self.new ≡ self.old ++ constraints_from table.now place }
+    pub fn push_constraints(&mut self, table: Table, place: usize)
+        requires { length self.old + length (constraints_from table.records.now place) ≤ 1600 }
+        ensures { self.new ≡ self.old ++ constraints_from table.entry.records.now place }
     {
         self.len = push_constraints(table, place, &mut self.places, self.len);
     }

@@ -5,13 +5,13 @@ use Rattle.group_constraints.proofs.Laws.{constraints-next, constraints-end, pus
 use Rattle.group_constraints.proofs.push_constraints.Goals as goal
 
 pub bounds-env-m : goal.bounds-env-m
-bounds-env-m c = grind (arith, common_steps, constraints-next c.args.table.now c.loop-p.p)
+bounds-env-m c = grind (arith, common_steps, constraints-next c.args.table.records.now c.loop-p.p)
 
 pub loop-p-preserved : goal.loop-p-preserved
-loop-p-preserved c = grind (arith, common_steps, constraints-next c.args.table.now c.loop-p.p, push-one)
+loop-p-preserved c = grind (arith, common_steps, constraints-next c.args.table.records.now c.loop-p.p, push-one)
 
 pub returns-then-k-ne-CONDITION : goal.returns-then-k-ne-CONDITION
-returns-then-k-ne-CONDITION c = grind (arith, common_steps, constraints-next c.args.table.now c.loop-p.p)
+returns-then-k-ne-CONDITION c = grind (arith, common_steps, constraints-next c.args.table.records.now c.loop-p.p)
 
 pub returns : goal.returns
-returns c = grind (arith, common_steps, constraints-end c.args.table.now c.loop-p.p)
+returns c = grind (arith, common_steps, constraints-end c.args.table.records.now c.loop-p.p)

@@ -5,5 +5,5 @@ use Rattle.group_constraints.proofs.push_constraints.Given as goal
 
 abbrev pub invariant-loop-p : goal.invariant-loop-p
 invariant-loop-p l =
-    (take l.count l.initial.env ++ constraints_from l.table l.place ≡ take l.m l.env ++ constraints_from l.table l.p)
-    × (l.count + length (constraints_from l.table l.place) ≡ l.m + length (constraints_from l.table l.p))
+    (take l.count l.initial.env ++ constraints_from l.table.records.now l.place ≡ take l.m l.env ++ constraints_from l.table.records.now l.p)
+    × (l.count + length (constraints_from l.table.records.now l.place) ≡ l.m + length (constraints_from l.table.records.now l.p))
