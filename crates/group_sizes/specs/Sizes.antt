@@ -33,7 +33,6 @@ pub record Sized (rs : List Record) (targets sizes : List ℕ) (n : ℕ) : Type 
 
 -- what is known of a table once its groups are measured
 pub record Measured (rs : List Record) (targets sizes : List ℕ) : Type 0 where
-  pub few : length rs ≤ 1600
   pub groups : GroupsFirst rs
   pub resolved : TargetsKnown rs targets (length rs)
   pub sized : Sized rs targets sizes (length rs)
@@ -46,4 +45,4 @@ total_size sizes rs (suc d) = total_size sizes rs d + (if is_kept (at rs d).kind
 -- what is asked where the records behind the declaration at d are counted: the targets of group fields are known, and there is room for sizes
 abbrev pub SizingAfter : List Record → List ℕ → List ℕ → ℕ → Type 0
 SizingAfter rs targets sizes d =
-    (length rs ≤ 1600) × TargetsKnown rs targets (length rs) × (length rs ≤ length sizes) × (d < length rs) × (is_decl (at rs d).kind ≡ true)
+    TargetsKnown rs targets (length rs) × (length rs ≤ length sizes) × (d < length rs) × (is_decl (at rs d).kind ≡ true)

@@ -13,29 +13,35 @@ ghost use Rattle.std.proofs.Props.{props};
 
 use kinds::is_kept;
 use members::{Member, Members};
-use rules::Record;
 use rules::limits::MOST_RECORDS;
+use table::Table;
+
+// A table in listed order, of at most 1,600 records: each group stands before the declaration that holds a field of it.
+#[derive(Clone, Copy)]
+pub struct Listed<'a> {
+    pub table: Table<'a>,
+    pub ghost groups_first: { GroupsFirst table.records.now } by { Prim.hlevel props },
+}
 
 // A table, with arrays by place: the declarations that group fields name, and the sizes of declarations.
 #[derive(Clone, Copy)]
 pub struct Groups<'a> {
-    pub table: &'a [Record],
+    pub table: Table<'a>,
     pub targets: &'a [u16],
     pub sizes: &'a [u16],
-    pub ghost measured: { Measured table.now targets.now sizes.now } by { Prim.hlevel props },
+    pub ghost measured: { Measured table.records.now targets.now sizes.now } by { Prim.hlevel props },
 }
 
 impl<'a> Groups<'a> {
     // The groups of a table in listed order, with arrays that it fills.
-    pub fn new(table: &'a [Record], targets: &'a mut [u16], sizes: &'a mut [u16]) -> Self
-        requires table_len_bound { (length table.now ≤ 1600) × (length table.now ≤ length targets.old) × (length table.now ≤ length sizes.old) }
-        requires groups_first { GroupsFirst table.now }
-        ensures { result.table ≡ table.entry }
+    pub fn new(listed: Listed<'a>, targets: &'a mut [u16], sizes: &'a mut [u16]) -> Self
+        requires { (length listed.table.records.now ≤ length targets.old) × (length listed.table.records.now ≤ length sizes.old) }
+        ensures { result.table ≡ listed.entry.table }
     {
-        targets::fill(table, targets);
-        measure(table, targets, sizes);
+        targets::fill(listed, targets);
+        measure(listed, targets, sizes);
         Groups {
-            table,
+            table: listed.table,
             targets,
             sizes,
         }
@@ -43,10 +49,10 @@ impl<'a> Groups<'a> {
 
     // How many records the inlined table has, if that is at most 1,600.
     pub fn total(&self) -> usize
-        ensures { result ≡ total_size self.now.sizes.now self.now.table.now (length self.now.table.now) }
+        ensures { result ≡ total_size self.now.sizes.now self.now.table.records.now (length self.now.table.records.now) }
     {
         let mut s: usize = 0;
-        for (d, r) in self.table.iter().enumerate() {
+        for (d, r) in self.table.records.iter().enumerate() {
             if is_kept(r.kind) {
                 s += 1 + usize::from(self.sizes[d]);
             }
@@ -68,12 +74,12 @@ fn size_here(targets: &[u16], sizes: &[u16], member: Member) -> usize
 }
 
 // How many records stand behind the declaration at `decl` once its groups are inlined, by the sizes of those groups.
-fn size_after(table: &[Record], targets: &[u16], sizes: &[u16], decl: usize) -> usize
-    requires { SizingAfter table.now targets.now sizes.now decl }
-    ensures { result ≡ size_from targets.now sizes.now table.now (decl + 1) }
+fn size_after(table: Table, targets: &[u16], sizes: &[u16], decl: usize) -> usize
+    requires { SizingAfter table.records.now targets.now sizes.now decl }
+    ensures { result ≡ size_from targets.now sizes.now table.entry.records.now (decl + 1) }
 {
     let mut s: usize = 0;
-    for member in Members::new(table, decl) {
+    for member in Members::new(table.records, decl) {
         s += size_here(targets, sizes, member);
     }
     s
@@ -83,13 +89,13 @@ fn size_after(table: &[Record], targets: &[u16], sizes: &[u16], decl: usize) -> 
 const TOO_MANY: usize = MOST_RECORDS + 1;
 
 // Writes the sizes of the declarations, in the order of the table: each group stands before what holds a field of it.
-pub fn measure(table: &[Record], targets: &[u16], sizes: &mut [u16])
-    requires table_len_bound { (length table.now ≤ 1600) × TargetsKnown table.now targets.now (length table.now) × (length table.now ≤ length sizes.old) }
-    requires groups_first { GroupsFirst table.now }
-    ensures { Sized table.now targets.now sizes.new (length table.now) }
+pub fn measure(listed: Listed, targets: &[u16], sizes: &mut [u16])
+    requires { TargetsKnown listed.table.records.now targets.now (length listed.table.records.now) × (length listed.table.records.now ≤ length sizes.old) }
+    ensures { Sized listed.entry.table.records.now targets.now sizes.new (length listed.entry.table.records.now) }
 {
-    for d in 0..table.len() {
-        if kinds::is_decl(table::kind(table, d)) {
+    let table = listed.table;
+    for d in 0..table.records.len() {
+        if kinds::is_decl(table::kind(table.records, d)) {
             let s = size_after(table, targets, sizes, d);
             sizes[d] = s.min(TOO_MANY) as u16;
         }

@@ -3,8 +3,9 @@ ghost use Rattle.std.specs.Prelude.{List, ℕ, ◌≤◌, length};
 ghost use Rattle.group_sizes.specs.GroupsFirst.{GroupsFirst};
 ghost use Rattle.group_sizes.specs.Targets.{TargetsKnown};
 
+use crate::Listed;
 use declarations::Names;
-use declarations::starts::is_large;
+use declarations::starts::large;
 use rules::Record;
 use table::{NO_PLACE, REMAINDERS};
 
@@ -19,6 +20,8 @@ fn first_group_field(table: &[Record]) -> usize
 }
 
 // Writes, at the place of each group field from `from` on, the place of the declaration that it names: one search for each.
+// The bound and the order are clauses here: `Names` can't hold them, as passes 1 and 6 take it for any table, and a struct of listed names would be
+// made and taken in this file alone. So is `TargetsKnown`: it holds up to a place, and only `measure` and the ghost field of `Groups` read it whole.
 fn fill_from(names: &Names, from: usize, targets: &mut [u16])
     requires table_len_bound { (length names.now.table.now ≤ 1600) × (from ≤ length names.now.table.now) × TargetsKnown names.now.table.now targets.old from }
     requires groups_first { GroupsFirst names.now.table.now }
@@ -34,21 +37,21 @@ fn fill_from(names: &Names, from: usize, targets: &mut [u16])
 }
 
 // Writes, at the place of each group field, the place of the declaration that it names. A table without group fields needs no starts.
-pub fn fill(table: &[Record], targets: &mut [u16])
-    requires table_len_bound { (length table.now ≤ 1600) × (length table.now ≤ length targets.old) }
-    requires groups_first { GroupsFirst table.now }
-    ensures { TargetsKnown table.now targets.new (length table.now) }
+pub fn fill(listed: Listed, targets: &mut [u16])
+    requires { length listed.table.records.now ≤ length targets.old }
+    ensures { TargetsKnown listed.entry.table.records.now targets.new (length listed.entry.table.records.now) }
 {
-    let first = first_group_field(table);
-    if first == table.len() {
+    let records = listed.table.records;
+    let first = first_group_field(records);
+    if first == records.len() {
         return;
     }
     // The array is made only for a large table, as those of pass_faults.
-    if !is_large(table) {
-        fill_from(&Names::new(table), first, targets);
+    let Some(large) = large(records) else {
+        fill_from(&Names::new(records), first, targets);
         return;
-    }
+    };
     let mut starts = [NO_PLACE; REMAINDERS];
-    let names = Names::with_starts(table, &mut starts);
+    let names = Names::with_starts(large, &mut starts);
     fill_from(&names, first, targets);
 }

@@ -7,6 +7,6 @@ use Rattle.group_sizes.proofs.measure.Goals.{then-is_decl, else-is_decl}
 pub loop-d-preserved : goal.loop-d-preserved
 loop-d-preserved c =
     elim c.if-is_decl.branch [
-      | then-is_decl w ↦ rw w.sizes-is (sized-next c.loop-d.invariant c.requires.groups_first c.requires.table_len_bound.1 (omega arith) (rw (← c.kind.ensures) (sym c.is_decl.ensures ∙ w.if-is_decl.true)) (omega arith) w.size_after-s.ensures)
+      | then-is_decl w ↦ rw w.sizes-is (sized-next c.loop-d.invariant c.args.listed.groups_first c.requires.0 (omega arith) (rw (← c.kind.ensures) (sym c.is_decl.ensures ∙ w.if-is_decl.true)) (omega arith) w.size_after-s.ensures)
       | else-is_decl w ↦ rw w.sizes-is (sized-other c.loop-d.invariant (rw (← c.kind.ensures) (sym c.is_decl.ensures ∙ w.if-is_decl.false)))
     ]

@@ -9,16 +9,16 @@ use Rattle.group_sizes.proofs.size_after.Goals as goal
 pub size_here-s-requires : goal.size_here-s-requires
 size_here-s-requires c =
     let m = rw c.loop-member.invariant.0 at c.in-Some.ensures.steps.0 in
-    (omega (arith, m.below, c.requires.1.long), target-in c.args.sizes.now c.requires.1 c.requires.2 m)
+    (omega (arith, m.below, c.requires.0.long), target-in c.args.sizes.now c.requires.0 c.requires.1 m)
 
 pub loop-member-preserved : goal.loop-member-preserved
 unfolding size_at
 loop-member-preserved c =
     let m = rw c.loop-member.invariant.0 at c.in-Some.ensures.steps.0 in
-    grind (arith, common_steps, size-next c.args.table.now c.in-Some.member.place m.below c.args.targets.now c.args.sizes.now)
+    grind (arith, common_steps, size-next c.args.table.records.now c.in-Some.member.place m.below c.args.targets.now c.args.sizes.now)
 
 pub returns : goal.returns
 returns c =
     let e = rw c.loop-member.invariant.0 at c.in-None.ensures.steps.0 in
-    let z = size-end c.args.table.now c.loop-member.member-iterator.place e c.args.targets.now c.args.sizes.now in
+    let z = size-end c.args.table.records.now c.loop-member.member-iterator.place e c.args.targets.now c.args.sizes.now in
     grind (arith, common_steps)

@@ -5,5 +5,5 @@ use Rattle.group_sizes.proofs.size_after.Given as goal
 
 abbrev pub invariant-loop-member : goal.invariant-loop-member
 invariant-loop-member l =
-    (l.member-iterator.table.now ≡ l.table) × (l.s ≤ 65535 * l.member-iterator.place)
-    × (l.s + size_from l.targets l.sizes l.table l.member-iterator.place ≡ size_from l.targets l.sizes l.table (l.decl + 1))
+    (l.member-iterator.table.now ≡ l.table.records.now) × (l.s ≤ 65535 * l.member-iterator.place)
+    × (l.s + size_from l.targets l.sizes l.table.records.now l.member-iterator.place ≡ size_from l.targets l.sizes l.table.records.now (l.decl + 1))

@@ -4,4 +4,4 @@ use Rattle.group_sizes.specs.Sizes.{total_size}
 use Rattle.group_sizes.proofs.Groups.total.Given as goal
 
 abbrev pub invariant-loop-d : goal.invariant-loop-d
-invariant-loop-d l = (l.s ≡ total_size l.self.sizes.now l.self.table.now l.d) × (l.s ≤ 65536 * l.d)
+invariant-loop-d l = (l.s ≡ total_size l.self.sizes.now l.self.table.records.now l.d) × (l.s ≤ 65536 * l.d)
