@@ -3,13 +3,11 @@ ghost use Rattle.std.specs.Prelude.{◌≡◌, ◌≤◌};
 ghost use Rattle.std.specs.Option.{option_to_list};
 ghost use Rattle.rules.specs.Kinds.{size};
 ghost use Rattle.rules.specs.SizeFields.{size_code, size_again};
-ghost use Rattle.repeats.specs.Marks.{Marked};
-ghost use Rattle.repeats.specs.declared.marks.Compared.TheVariants.{Sizes, ElementSizes};
 
+use crate::Sizes;
 use kinds::is_size;
-use repeats::again_marked;
-use repeats::marks::Compared;
-use rules::{Fault, Record, codes};
+use repeats::marks::{Compared, Marks};
+use rules::{Fault, codes};
 
 // How far the codes of Size, Count and ElementSize are apart.
 const CODES_EACH: u16 = codes::DUPLICATE_COUNT_FIELD - codes::DUPLICATE_SIZE_FIELD;
@@ -24,22 +22,26 @@ pub(crate) fn size_code(kind: u8) -> u16
 
 // First a repeat: 23, 26, 29. Size and Count share one map, and ElementSize has its own.
 #[tactic(auto, unfolding(rules::specs::SizeFields::size_again, rules::specs::EnumDeclarations::again))]
-pub fn size_again(
-    table: &[Record],
-    sizes: &[bool],
-    elements: &[bool],
-    place: usize,
-) -> Option<Fault>
-    requires { Marked table.now Sizes sizes.now × Marked table.now ElementSizes elements.now }
-    ensures { option_to_list result ≡ size_again table.now place }
+pub fn size_again(sizes: &Sizes, place: usize) -> Option<Fault>
+    ensures { option_to_list result ≡ size_again sizes.now.table.now place }
 {
-    let k = table::kind(table, place);
+    let k = table::kind(sizes.table, place);
     if !is_size(k) {
         return None;
     }
     let code = size_code(k);
     if k == kinds::ELEMENT_SIZE {
-        return again_marked(code, table, Compared::ElementSizes, place, elements);
+        let marks = Marks {
+            table: sizes.table,
+            what: Compared::ElementSizes,
+            marks: sizes.elements,
+        };
+        return marks.again(code, place);
     }
-    again_marked(code, table, Compared::Sizes, place, sizes)
+    let marks = Marks {
+        table: sizes.table,
+        what: Compared::Sizes,
+        marks: sizes.sizes,
+    };
+    marks.again(code, place)
 }

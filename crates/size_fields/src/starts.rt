@@ -6,7 +6,7 @@ ghost use Rattle.size_fields.specs.SizeStarts.{SizeStarts, name_of, start_for, K
 
 use kinds::{is_decl, is_size};
 use rules::Record;
-use table::{BODY_NAME, DIVISOR, NO_PLACE, PAYLOAD_NAME, REMAINDERS};
+use table::{BODY_NAME, DIVISOR, NO_PLACE, PAYLOAD_NAME, REMAINDERS, Table};
 
 // The only name by which a size can mean the record.
 fn name_of(r: &Record) -> u16
@@ -36,37 +36,40 @@ impl Kept {
     }
 
     // The starts for the sizes of the declaration at `decl`, up to the next one.
-    fn set_starts(&self, table: &[Record], decl: usize, starts: &mut [u16])
-        requires { (length table.now ≤ 1600) × (1600 ≤ length starts.old) × (is_decl (at table.now decl).kind ≡ true) × KeptPlaces table.now self.now.last self.now.end (decl + 1) × SizeStarts table.now starts.old }
-        ensures { SizeStarts table.now starts.new }
+    fn set_starts(&self, table: Table, decl: usize, starts: &mut [u16])
+        requires { (1600 ≤ length starts.old) × (is_decl (at table.records.now decl).kind ≡ true) × KeptPlaces table.records.now self.now.last self.now.end (decl + 1) × SizeStarts table.records.now starts.old }
+        ensures { SizeStarts table.entry.records.now starts.new }
     {
         for q in decl + 1..self.end {
-            if is_size(table[q].kind) {
-                starts[q] = self.start_for(table[q].second);
+            let r = &table.records[q];
+            if is_size(r.kind) {
+                starts[q] = self.start_for(r.second);
             }
         }
     }
 
     // One place more.
-    fn step(&mut self, table: &[Record], place: usize, starts: &mut [u16])
-        requires { (place < length table.now) × (length table.now ≤ 1600) × (1600 ≤ length starts.old) × KeptPlaces table.now self.old.last self.old.end (place + 1) × SizeStarts table.now starts.old }
-        ensures { SizeStarts table.now starts.new × KeptPlaces table.now self.new.last self.new.end place }
+    fn step(&mut self, table: Table, place: usize, starts: &mut [u16])
+        requires { (place < length table.records.now) × (1600 ≤ length starts.old) × KeptPlaces table.records.now self.old.last self.old.end (place + 1) × SizeStarts table.records.now starts.old }
+        ensures { SizeStarts table.entry.records.now starts.new × KeptPlaces table.entry.records.now self.new.last self.new.end place }
     {
-        if is_decl(table[place].kind) {
+        let r = &table.records[place];
+        if is_decl(r.kind) {
             self.set_starts(table, place, starts);
             self.end = place;
         } else {
-            self.last[usize::from(name_of(&table[place]) % DIVISOR)] = place as u16;
+            self.last[usize::from(name_of(r) % DIVISOR)] = place as u16;
         }
     }
 }
 
-// Fills `starts`, in which no start is known at first: all places of the table, from the last to the first.
-pub fn fill(table: &[Record], starts: &mut [u16])
-    requires { (length table.now ≤ 1600) × (1600 ≤ length starts.old) × SizeStarts table.now starts.old }
-    ensures { SizeStarts table.now starts.new }
+// Fills `starts`, in which no start is known at first: all places of the table, from the last to the first. What is known of them stands in
+// clauses: of the slices that a struct holds by &mut nothing is known where the struct ends.
+pub fn fill(table: Table, starts: &mut [u16])
+    requires { (1600 ≤ length starts.old) × SizeStarts table.records.now starts.old }
+    ensures { SizeStarts table.entry.records.now starts.new }
 {
-    let n = table.len();
+    let n = table.records.len();
     let mut kept = Kept {
         last: [NO_PLACE; REMAINDERS],
         end: n,

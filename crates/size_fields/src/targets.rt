@@ -2,8 +2,8 @@
 ghost use Rattle.std.specs.Prelude.{◌≡◌, ◌+◌, ◌<◌};
 ghost use Rattle.std.specs.Option.{option_to_list};
 ghost use Rattle.rules.specs.SizeFields.{matching, is_sized, misnamed, size_target};
-ghost use Rattle.size_fields.specs.SizeStarts.{SizeStarts};
 
+use crate::Sizes;
 use crate::duplicates::size_code;
 use crate::matches::first_match;
 use faults::when;
@@ -50,14 +50,13 @@ fn misnamed(code: u16, table: &[Record], place: usize, found: Option<usize>) -> 
 
 // Then missing 24, 27, 30, or no array 25, 28, 31.
 #[tactic(auto, unfolding(rules::specs::SizeFields::size_target))]
-pub fn size_target(table: &[Record], starts: &[u16], place: usize) -> Option<Fault>
-    requires { SizeStarts table.now starts.now }
-    ensures { option_to_list result ≡ size_target table.now place }
+pub fn size_target(sizes: &Sizes, place: usize) -> Option<Fault>
+    ensures { option_to_list result ≡ size_target sizes.now.table.now place }
 {
-    let r = table::at(table, place);
+    let r = table::at(sizes.table, place);
     if !is_size(r.kind) {
         return None;
     }
-    let found = first_match(table, starts, matching(r.kind, r.second), place);
-    misnamed(size_code(r.kind), table, place, found)
+    let found = first_match(sizes, matching(r.kind, r.second), place);
+    misnamed(size_code(r.kind), sizes.table, place, found)
 }

@@ -3,4 +3,4 @@ use Rattle.size_fields.proofs.starts.Laws.{kept-none}
 use Rattle.size_fields.proofs.starts.fill.Goals as goal
 
 pub loop-place-init : goal.loop-place-init
-loop-place-init c = (c.requires.2, kept-none _ c.requires.0)
+loop-place-init c = (c.requires.1, kept-none _ c.args.table.few)

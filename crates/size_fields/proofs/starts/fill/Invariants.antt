@@ -3,4 +3,4 @@ use Rattle.size_fields.specs.SizeStarts.{SizeStarts, KeptPlaces}
 use Rattle.size_fields.proofs.starts.fill.Given as goal
 
 abbrev pub invariant-loop-place : goal.invariant-loop-place
-invariant-loop-place l = SizeStarts l.table l.starts × KeptPlaces l.table l.kept.last l.kept.end l.place
+invariant-loop-place l = SizeStarts l.table.records.now l.starts × KeptPlaces l.table.records.now l.kept.last l.kept.end l.place

@@ -10,6 +10,6 @@ unfolding at
 loop-q-preserved c =
     elim c.if-is_size.branch [
       | then-is_size w ↦ rw (w.starts-is, w.start_for.ensures)
-          (starts-one _ _ _ _ (search rules) c.loop-q.invariant (kept-within _ _ _ c.args.decl _ c.requires.3 c.requires.2 (omega arith) c.loop-q-test.true))
+          (starts-one _ _ _ _ (search rules) c.loop-q.invariant (kept-within _ _ _ c.args.decl _ c.requires.2 c.requires.1 (omega arith) c.loop-q-test.true))
       | else-is_size w ↦ rw w.starts-is c.loop-q.invariant
     ]

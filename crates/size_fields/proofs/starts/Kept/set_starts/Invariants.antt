@@ -3,4 +3,4 @@ use Rattle.size_fields.specs.SizeStarts.{SizeStarts}
 use Rattle.size_fields.proofs.starts.Kept.set_starts.Given as goal
 
 abbrev pub invariant-loop-q : goal.invariant-loop-q
-invariant-loop-q l = SizeStarts l.table l.starts
+invariant-loop-q l = SizeStarts l.table.records.now l.starts

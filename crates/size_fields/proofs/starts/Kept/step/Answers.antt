@@ -7,9 +7,9 @@ use Rattle.size_fields.proofs.starts.Kept.step.Goals as goal
 pub set_starts-requires : goal.set_starts-requires
 unfolding at
 set_starts-requires c =
-    (c.requires.1, c.requires.2, sym c.is_decl.ensures ∙ c.if-is_decl.true, c.requires.3, c.requires.4)
+    (c.requires.1, sym c.is_decl.ensures ∙ c.if-is_decl.true, c.requires.2, c.requires.3)
 
 pub returns-else-is_decl : goal.returns-else-is_decl
 unfolding at
 returns-else-is_decl c =
-    (c.requires.4, rw (c.from.ensures, c.name_of.ensures) (kept-other _ _ _ _ c.requires.0 c.requires.3 (search rules) (sym c.is_decl.ensures ∙ c.if-is_decl.false)))
+    (c.requires.3, rw (c.from.ensures, c.name_of.ensures) (kept-other _ _ _ _ c.requires.0 c.requires.2 (search rules) (sym c.is_decl.ensures ∙ c.if-is_decl.false)))
