@@ -4,24 +4,22 @@
 ghost use Rattle.std.specs.Prelude.{◌≡◌};
 ghost use Rattle.rules.specs.Faults.{log, logged};
 ghost use Rattle.rules.specs.FieldIdentifiers.{pass3};
-ghost use Rattle.repeats.specs.Marks.{Marked};
 ghost use Rattle.repeats.specs.declared.marks.Compared.TheVariants.{FieldNames};
 
 use faults::notes::note_found;
-use repeats::marks::mark_at;
-use rules::{Record, Tally, Target, codes};
+use repeats::marks::Marks;
+use rules::{Tally, codes};
 
 // All faults of the pass, where `marks` says which fields may repeat a name.
-pub fn check_field_identifiers(table: &[Record], marks: &[bool], buffer: &mut [u8]) -> Tally
-    requires { Marked table.now FieldNames marks.now }
-    ensures { log result buffer.new ≡ logged buffer.old (pass3 table.now) }
+pub fn check_field_identifiers(marks: &Marks, buffer: &mut [u8]) -> Tally
+    requires { marks.now.what ≡ FieldNames }
+    ensures { log result buffer.new ≡ logged buffer.old (pass3 marks.now.table.now) }
 {
     let mut tally = faults::no_faults();
-    for (place, r) in table.iter().enumerate() {
+    for (place, r) in marks.table.iter().enumerate() {
         // Mark and kind are tested in one branch: few fields that repeat no name keep their mark.
-        if mark_at(marks, place) & kinds::is_named_field(r.kind) {
-            let target = Target::NameOrDecl(r.name);
-            let found = repeats::again(codes::DUPLICATE_FIELD_IDENTIFIER, table, target, place);
+        if marks.at(place) & kinds::is_named_field(r.kind) {
+            let found = marks.again(codes::DUPLICATE_FIELD_IDENTIFIER, place);
             tally = note_found(tally, buffer, found);
         }
     }

@@ -12,7 +12,7 @@ use Rattle.repeats.specs.Marks.{Marked}
 use Rattle.repeats.specs.declared.marks.Compared.TheVariants.{FieldNames}
 use Rattle.repeats.proofs.Laws.{not-again}
 use Rattle.field_identifiers.proofs.check_field_identifiers.Goals as goal
-use Rattle.field_identifiers.proofs.check_field_identifiers.Goals.{then-mark_at-is_named_field, else-mark_at-is_named_field}
+use Rattle.field_identifiers.proofs.check_field_identifiers.Goals.{then-at-is_named_field, else-at-is_named_field}
 
 -- where the mark is false, or no named field stands
 passed_over : (rs : List Record) (marks : List Bool) (p : ℕ) → Marked rs FieldNames marks → get_or marks p true && is_named_field (at rs p).kind ≡ false → [] ≡ pass3_at rs p
@@ -25,13 +25,13 @@ loop-place-init c = grind (arith, noted-start)
 pub loop-place-preserved : goal.loop-place-preserved
 unfolding pass3_at again at
 loop-place-preserved c =
-    elim c.if-mark_at-is_named_field.branch [
-      | then-mark_at-is_named_field w ↦
+    elim c.if-at-is_named_field.branch [
+      | then-at-is_named_field w ↦
           rw (w.tally-is, w.buffer-is)
           (noted-place _ c.loop-place.place _ _ c.loop-place.invariant.0 (search rules) w.note_found-tally.ensures, omega (arith, total-after _ _ _ w.note_found-tally.ensures, findings-few w.again-found.result))
-      | else-mark_at-is_named_field w ↦
+      | else-at-is_named_field w ↦
           rw (w.tally-is, w.buffer-is)
-          (noted-place _ c.loop-place.place _ [] c.loop-place.invariant.0 (passed_over _ _ _ c.requires (search rules)) (noted-none _), omega arith)
+          (noted-place _ c.loop-place.place _ [] c.loop-place.invariant.0 (passed_over _ _ _ (rw c.requires at c.args.marks.now.known) (search rules)) (noted-none _), omega arith)
     ]
 
 pub returns : goal.returns

@@ -10,4 +10,4 @@ use Rattle.field_identifiers.proofs.check_field_identifiers.Given as goal
 
 abbrev pub invariant-loop-place : goal.invariant-loop-place
 invariant-loop-place l =
-    (log l.tally l.buffer ≡ noted_all (log no_faults l.initial.buffer) (each (pass3_at l.table) l.place)) × (l.tally.total ≤ l.place)
+    (log l.tally l.buffer ≡ noted_all (log no_faults l.initial.buffer) (each (pass3_at l.marks.table.now) l.place)) × (l.tally.total ≤ l.place)
