@@ -13,6 +13,7 @@ use Rattle.rules.specs.Table.{at}
 use Rattle.rules.specs.Places.{each}
 use Rattle.rules.specs.DesugarFlags.{members_start, entry_of, is_condition_on, entries, entries_from, entries_of, flag_of, condition_at, entries_at, own_entries, with_entries, desugared_at, desugared}
 use Rattle.rules.specs.declared.Record.{Record}
+use Rattle.flag_sizes.specs.Counts.{made_at}
 use Rattle.table.proofs.Laws.{left-suc, left-none, each_more, each-few, when-few, at-past}
 
 -- ---- entries
@@ -76,22 +77,19 @@ with-cases rs p r [] = refl
 with-cases rs p r (e ∷ es) = grind arith
 
 module _ (rs : List Record) (p : ℕ) where
-  abbrev pub made : List Record
-  made = entries_of rs (at rs p) (members_start rs p)
-
   -- what it becomes; conditions and entries go with their field
   pub desugared-cases : desugared_at rs p
       ≡ (if is_condition_or_entry (at rs p).kind then []
-      else if eqb (length made) 0 then at rs p ∷ condition_at rs (p + 1) ++ own_entries rs p
-      else flag_of (at rs p) ∷ condition_at rs (p + 1) ++ made)
+      else if eqb (length (made_at rs p)) 0 then at rs p ∷ condition_at rs (p + 1) ++ own_entries rs p
+      else flag_of (at rs p) ∷ condition_at rs (p + 1) ++ made_at rs p)
   unfolding desugared_at
   desugared-cases = rw (desugared_at, with-cases)
 
   -- and how many records these are
   pub size_cases : length (desugared_at rs p)
       ≡ (if is_condition_or_entry (at rs p).kind then 0
-      else 1 + length (condition_at rs (p + 1)) + (if eqb (length made) 0 then length (own_entries rs p) else length made))
-  size_cases = grind (arith, desugared-cases, length-append (condition_at rs (p + 1)) made, length-append (condition_at rs (p + 1)) (own_entries rs p))
+      else 1 + length (condition_at rs (p + 1)) + (if eqb (length (made_at rs p)) 0 then length (own_entries rs p) else length (made_at rs p)))
+  size_cases = grind (arith, desugared-cases, length-append (condition_at rs (p + 1)) (made_at rs p), length-append (condition_at rs (p + 1)) (own_entries rs p))
 
 pub ruleset size_laws = (size_cases, condition_few, few_own, few_made)
 
@@ -99,6 +97,10 @@ at-few : (rs : List Record) (p : ℕ) → length (desugared_at rs p) ≤ 2 + len
 at-few rs p = grind (arith, size_cases rs p, condition_few rs (p + 1), few_made rs (at rs p) (members_start rs p), few_own rs (p + 1 + length (condition_at rs (p + 1))))
 
 -- ---- the whole table
+
+pub start_zero : (rs : List Record) → 0 ≡ members_start rs 0
+unfolding members_start
+start_zero rs = refl
 
 pub start_next : (rs : List Record) (p : ℕ) → members_start rs (p + 1) ≡ (if is_decl (at rs p).kind then p + 1 else members_start rs p)
 unfolding members_start
@@ -113,9 +115,9 @@ start_few rs (suc p) = grind (arith, start_few rs p)
 abbrev pub size_below : List Record → ℕ → ℕ
 size_below rs p = length (each (desugared_at rs) p)
 
-pub size-zero : (rs : List Record) → (0 ≡ size_below rs 0) × (0 ≡ members_start rs 0)
-unfolding each members_start
-size-zero rs = (refl, refl)
+pub size-zero : (rs : List Record) → 0 ≡ size_below rs 0
+unfolding each
+size-zero rs = refl
 
 pub size-more : (rs : List Record) (p : ℕ) → size_below rs (p + 1) ≡ size_below rs p + length (desugared_at rs p)
 size-more rs p = rw (each_more (desugared_at rs) p) (length-append (each (desugared_at rs) p) (desugared_at rs p))

@@ -9,7 +9,11 @@ pub record ConditionsStamped (rs : List Record) (marks : List ℕ) (a : ℕ) : T
   pub long : 4093 ≤ length marks
   pub clear : (x : ℕ) → ¬ (get_or marks (x % 4093) 0 ≡ a) → [] ≡ entries_from rs x a
 
+-- the entries made for the record at p
+abbrev pub made_at : List Record → ℕ → List Record
+made_at rs p = entries_of rs (at rs p) (members_start rs p)
+
 -- how many entries are made for each record below n, by its place
 pub record Counted (rs : List Record) (counts : List ℕ) (n : ℕ) : Type 0 where
   pub long : 1600 ≤ length counts
-  pub known : (q : ℕ) → q < n → get_or counts q 0 ≡ length (entries_of rs (at rs q) (members_start rs q))
+  pub known : (q : ℕ) → q < n → get_or counts q 0 ≡ length (made_at rs q)

@@ -7,12 +7,11 @@ use Rattle.flag_sizes.proofs.total.Goals as goal
 
 pub overflow_add-n : goal.overflow_add-n
 overflow_add-n c =
-    grind (arith, size-more c.args.table.records.now c.loop-p.p, size_few c.args.table.records.now (c.loop-p.p + 1))
+    grind (arith, common_steps, size-more c.args.table.records.now c.loop-p.p, size_few c.args.table.records.now (c.loop-p.p + 1) c.args.table.few)
 
 pub loop-p-preserved : goal.loop-p-preserved
 loop-p-preserved c = (
   grind (arith, size-more c.args.table.records.now c.loop-p.p),
-  c.mark_next-a.ensures.0,
+  grind (arith, common_steps),
   record { long = grind (arith, common_steps); known = λ q l. grind (arith, common_steps, c.loop-p.invariant.2.known q) },
-  c.mark_next-a.ensures.1,
 )
