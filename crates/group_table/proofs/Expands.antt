@@ -179,12 +179,12 @@ module _ {rs : List Record} {targets sizes : List ℕ} (k : Measured rs targets 
       unfolding inlined_field group_fields
       field-group e v = rw (inlined_field, is-group, found)
 
-      pub call-push : (length rs ≤ 1600) × (length env + length (own_constraints rs m.place) + (m.place + 1) ≤ 1600)
+      pub call-push : length env + length (own_constraints rs m.place) + (m.place + 1) ≤ 1600
       call-push =
           let l = h.below in
           let e = ap length w.kept in
           let r = own-room rs d (length env) (length rs - (m.place + 1)) (m.place + 1) (here-next rs m.place h.inside w.here) (λ x i z. let v = y.spare x (omega arith) z in omega arith) in
-          (k.few, omega arith)
+          omega arith
 
       -- it has no fields
       pub turn-empty : get_or sizes (get_or targets m.place 0) 0 ≡ 0 → Walking rs targets sizes d env₀ out₀ a env out s (m.place + 1)

@@ -48,17 +48,17 @@ fn expand(
     out: &mut [Record],
     progress: ExpandProgress,
 ) -> ExpandProgress
-    requires { ExpandReady groups.now.table.now groups.now.sizes.now decl env.old out.old progress }
-    ensures { Expanded groups.now.table.now groups.now.sizes.now decl env.old out.old progress env.new out.new result }
+    requires { ExpandReady groups.now.table.records.now groups.now.sizes.now decl env.old out.old progress }
+    ensures { Expanded groups.now.table.records.now groups.now.sizes.now decl env.old out.old progress env.new out.new result }
 {
-    let table = groups.table;
+    let table = groups.table.records;
     let mut s = progress;
     for Member { place, kind, bound } in Members::new(table, decl) {
         if kind == kinds::GROUP_FIELD {
             let g = usize::from(groups.targets[place]);
             if groups.sizes[g] != 0 {
                 let top = env.len();
-                env.push_constraints(table, place + 1);
+                env.push_constraints(groups.table, place + 1);
                 s = expand(groups, g, env, out, s);
                 env.truncate(top);
             }
@@ -72,16 +72,16 @@ fn expand(
 
 // Writes the inlined table.
 pub fn write_all(groups: &Groups, out: &mut [Record]) -> ExpandProgress
-    requires room_for_inlined { total_size groups.now.sizes.now groups.now.table.now (length groups.now.table.now) ≤ length out.old }
-    requires table_bound { total_size groups.now.sizes.now groups.now.table.now (length groups.now.table.now) ≤ 1600 }
-    ensures { output result out.new ≡ added_all (output empty out.old) (inlined groups.now.table.now) }
+    requires room_for_inlined { total_size groups.now.sizes.now groups.now.table.records.now (length groups.now.table.records.now) ≤ length out.old }
+    requires table_bound { total_size groups.now.sizes.now groups.now.table.records.now (length groups.now.table.records.now) ≤ 1600 }
+    ensures { output result out.new ≡ added_all (output empty out.old) (inlined groups.now.table.records.now) }
 {
     let mut env = Stack::new();
     let mut s = ExpandProgress {
         count: 0,
         unfit: None,
     };
-    for (d, r) in groups.table.iter().enumerate() {
+    for (d, r) in groups.table.records.iter().enumerate() {
         if is_kept(r.kind) {
             let first = add(
                 out,

@@ -12,7 +12,7 @@ pub push_constraints-requires : goal.push_constraints-requires
 push_constraints-requires t c =
     let w = step_in c.in-Some.ensures.steps c.loop-place.invariant in
     let p = call-push c.args.groups.now.measured c.requires w.0 w.1 c.if-kind-eq-GROUP_FIELD.true in
-    (p.0, omega arith)
+    omega arith
 
 pub expand-s-requires : goal.expand-s-requires
 expand-s-requires t c =

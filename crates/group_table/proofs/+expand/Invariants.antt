@@ -9,5 +9,5 @@ decreases-expand l = l.decl
 -- what is written and what is left make the whole
 abbrev pub invariant-loop-place : goal.invariant-loop-place
 invariant-loop-place l =
-    (l.place-iterator.table.now ≡ l.groups.table.now)
-    × Walking l.groups.table.now l.groups.targets.now l.groups.sizes.now l.decl l.initial.env l.initial.out l.initial.s l.env l.out l.s l.place-iterator.place
+    (l.place-iterator.table.now ≡ l.groups.table.records.now)
+    × Walking l.groups.table.records.now l.groups.targets.now l.groups.sizes.now l.decl l.initial.env l.initial.out l.initial.s l.env l.out l.s l.place-iterator.place

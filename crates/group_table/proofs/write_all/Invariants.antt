@@ -8,5 +8,5 @@ use Rattle.group_table.proofs.write_all.Given as goal
 
 abbrev pub invariant-loop-d : goal.invariant-loop-d
 invariant-loop-d l =
-    (output l.s l.out ≡ added_all (output empty l.initial.out) (each (inlined_at l.groups.table.now) l.d))
-    × (l.s.count ≡ total_size l.groups.sizes.now l.groups.table.now l.d) × (l.env ≡ []) × (length l.out ≡ length l.initial.out)
+    (output l.s l.out ≡ added_all (output empty l.initial.out) (each (inlined_at l.groups.table.records.now) l.d))
+    × (l.s.count ≡ total_size l.groups.sizes.now l.groups.table.records.now l.d) × (l.env ≡ []) × (length l.out ≡ length l.initial.out)
