@@ -1,12 +1,11 @@
 // Module 11: each group field becomes the fields of its group, fixed as its constraints say.
 #![tactic(auto)]
 
-ghost use Rattle.std.specs.Prelude.{◌≡◌, ◌≤◌, length};
+ghost use Rattle.std.specs.Prelude.{◌≡◌, length};
 ghost use Rattle.rules.specs.InlineGroups.{inlined};
-ghost use Rattle.group_sizes.specs.GroupsFirst.{GroupsFirst};
 ghost use Rattle.inline_groups.specs.Inlinings.{inlining, inlining_numbered, by_fit, inlining_records};
 
-use group_sizes::Groups;
+use group_sizes::{Groups, Listed};
 use group_table::ExpandProgress;
 use rules::limits::MOST_RECORDS;
 use rules::{FieldKey, Record};
@@ -31,7 +30,7 @@ fn by_fit(progress: ExpandProgress) -> Result<usize, InlineError>
 
 // Inlines the groups of a table into a buffer, if the inlined table fits it.
 fn inline_with(groups: &Groups, out: &mut [Record]) -> Result<usize, InlineError>
-    ensures { (result ≡ inlining (length out.old) (inlined groups.now.table.now)) × (out.new ≡ inlining_records out.old (inlined groups.now.table.now)) }
+    ensures { (result ≡ inlining (length out.old) (inlined groups.now.table.records.now)) × (out.new ≡ inlining_records out.old (inlined groups.now.table.records.now)) }
 {
     let n = groups.total();
     if MOST_RECORDS < n {
@@ -44,14 +43,12 @@ fn inline_with(groups: &Groups, out: &mut [Record]) -> Result<usize, InlineError
 }
 
 // Inlines the groups of a table in listed order into a buffer, if the inlined table fits it. Returns how many records it has.
-pub fn inline_groups(table: &[Record], out: &mut [Record]) -> Result<usize, InlineError>
-    requires table_len_bound { length table.now ≤ 1600 }
-    requires groups_first { GroupsFirst table.now }
-    ensures value { (result ≡ inlining (length out.old) (inlined table.now)) × (out.new ≡ inlining_records out.old (inlined table.now)) }
-    ensures numbered { inlining_numbered result ≡ inlining_numbered (inlining (length out.old) (inlined table.now)) }
+pub fn inline_groups(listed: Listed, out: &mut [Record]) -> Result<usize, InlineError>
+    ensures value { (result ≡ inlining (length out.old) (inlined listed.entry.table.records.now)) × (out.new ≡ inlining_records out.old (inlined listed.entry.table.records.now)) }
+    ensures numbered { inlining_numbered result ≡ inlining_numbered (inlining (length out.old) (inlined listed.entry.table.records.now)) }
 {
     let mut targets = [0; MOST_RECORDS];
     let mut sizes = [0; MOST_RECORDS];
-    let groups = Groups::new(table, &mut targets, &mut sizes);
+    let groups = Groups::new(listed, &mut targets, &mut sizes);
     inline_with(&groups, out)
 }
