@@ -18,8 +18,8 @@ ghost use Rattle.std.proofs.Props.{props};
 use enum_bounds::range::{greater, lesser};
 use enum_bounds::{RangeBounds, holders};
 use faults::when;
-use repeats::marks::Compared;
-use repeats::{again, again_marked};
+use repeats::again;
+use repeats::marks::{Compared, Marks};
 use rules::{Fault, Record, Tally, Target, codes};
 
 // A table, with marks of the tags that may repeat an earlier name or value of their enum.
@@ -74,13 +74,12 @@ fn note_three(
 fn name_again(marked: &MarkedTags, place: usize) -> Option<Fault>
     ensures { option_to_list result ≡ again 12 marked.now.table.now (TagOrDecl (at marked.now.table.now place).name) place }
 {
-    again_marked(
-        codes::DUPLICATE_TAG_IDENTIFIER,
-        marked.table,
-        Compared::TagNames,
-        place,
-        marked.names,
-    )
+    let names = Marks {
+        table: marked.table,
+        what: Compared::TagNames,
+        marks: marked.names,
+    };
+    names.again(codes::DUPLICATE_TAG_IDENTIFIER, place)
 }
 
 // A value within bounds: 12, 13, 14.
@@ -99,13 +98,12 @@ fn note_value(
     let r = table::at(marked.table, place);
     let v = r.one;
     let x = name_again(marked, place);
-    let y = again_marked(
-        codes::DUPLICATE_TAG_VALUE,
-        marked.table,
-        Compared::TagValues,
-        place,
-        marked.values,
-    );
+    let values = Marks {
+        table: marked.table,
+        what: Compared::TagValues,
+        marks: marked.values,
+    };
+    let y = values.again(codes::DUPLICATE_TAG_VALUE, place);
     let z = when(
         (v < low) | (high < v),
         faults::fault::single(codes::INVALID_TAG_VALUE, r),
