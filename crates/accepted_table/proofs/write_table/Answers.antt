@@ -11,24 +11,24 @@ use Rattle.accepted_table.proofs.write_table.Goals as goal
 use Rattle.accepted_table.proofs.write_table.Goals.{In-Ok}
 
 -- what the inlined table has, where it was made
-fits-few : (c : In-Ok) → (c.in-Ok.n ≤ 1600) × (c.in-Ok.n ≡ length (inlined c.args.listed.now)) × (c.in-Ok.n ≤ length c.args.expanded.now)
+fits-few : (c : In-Ok) → (c.in-Ok.n ≤ 1600) × (c.in-Ok.n ≡ length (inlined c.args.listed.table.records.now)) × (c.in-Ok.n ≤ length c.args.expanded.now)
 fits-few c =
-    inlined-few c.args.listed.now c.args.expanded.now c.inline_groups.ensures.value.0 c.inline_groups.ensures.value.1 _ c.in-Ok.is
+    inlined-few c.args.listed.table.records.now c.args.expanded.now c.inline_groups.ensures.value.0 c.inline_groups.ensures.value.1 _ c.in-Ok.is
 
-pub slice_bounds-desugar_flags-end : goal.slice_bounds-desugar_flags-end
-slice_bounds-desugar_flags-end c =
-    let few = fits-few (goal.at.slice_bounds-desugar_flags-end c).In-Ok in
+pub slice_bounds-records-end : goal.slice_bounds-records-end
+slice_bounds-records-end c =
+    let few = fits-few (goal.at.slice_bounds-records-end c).In-Ok in
     omega (arith, few.2, c.inline_groups.auto.out)
 
-pub slice_bounds-desugar_flags-end-in-Ok : goal.slice_bounds-desugar_flags-end-in-Ok
-slice_bounds-desugar_flags-end-in-Ok c =
-    let few = fits-few (goal.at.slice_bounds-desugar_flags-end-in-Ok c).In-Ok in
+pub slice_bounds-records-end-in-Ok : goal.slice_bounds-records-end-in-Ok
+slice_bounds-records-end-in-Ok c =
+    let few = fits-few (goal.at.slice_bounds-records-end-in-Ok c).In-Ok in
     sym (length-take-le _ _ (omega (arith, few.2, c.inline_groups.auto.out)))
 
-pub desugar_flags-requires : goal.desugar_flags-requires
-desugar_flags-requires c =
-    let few = fits-few (goal.at.desugar_flags-requires c).In-Ok in
-    omega (arith, few.0, length-take-le c.in-Ok.n c.inline_groups.new.out (omega (arith, few.2, c.inline_groups.auto.out)))
+pub invariant_of-desugar_flags : goal.invariant_of-desugar_flags
+invariant_of-desugar_flags c =
+    let few = fits-few (goal.at.invariant_of-desugar_flags c).In-Ok in
+    record { few = omega (arith, few.0, length-take-le c.in-Ok.n c.inline_groups.new.out (omega (arith, few.2, c.inline_groups.auto.out))) }
 
 pub returns-in-Err-Swollen : goal.returns-in-Err-Swollen
 returns-in-Err-Swollen c = told-swollen _ _ c.inline_groups.ensures.value.0 _ (rw c.in-Err-Swollen.field-0-is at c.in-Err-Swollen.is)
@@ -41,5 +41,5 @@ returns-in-Err-Unfit c = told-unfit _ _ c.inline_groups.ensures.value.0 _ _ (rw 
 
 pub returns-in-Ok : goal.returns-in-Ok
 returns-in-Ok c =
-    told-inlined c.args.listed.now c.args.expanded.now c.inline_groups.ensures.value.0 c.inline_groups.ensures.value.1 _ c.in-Ok.is
+    told-inlined c.args.listed.table.records.now c.args.expanded.now c.inline_groups.ensures.value.0 c.inline_groups.ensures.value.1 _ c.in-Ok.is
     c.args.table.now _ c.desugar_flags.ensures
