@@ -12,6 +12,7 @@ use enum_tags::{EnumTags, MarkedTags};
 use repeats::marks::{Compared, marks_of};
 use rules::limits::MOST_RECORDS;
 use rules::{Record, Tally};
+use table::Table;
 
 // Room for the places of the ranges of an enum, and for their bounds.
 #[derive(Drop)]
@@ -85,18 +86,6 @@ fn note_place(
     note_enum(marked, decl, count, room, tally, buffer)
 }
 
-// All enums.
-fn note_enums(marked: &MarkedTags, room: &mut Room, buffer: &mut [u8]) -> Tally
-    requires { length marked.now.table.now ≤ 1600 }
-    ensures { log result buffer.new ≡ logged buffer.old (pass4 marked.now.table.now) }
-{
-    let mut tally = faults::no_faults();
-    for d in 0..marked.table.len() {
-        tally = note_place(marked, d, room, tally, buffer);
-    }
-    tally
-}
-
 // Whether there is an enum at all.
 fn has_enum(table: &[Record]) -> bool
     ensures { result ≡ list_any (is enum) table.now }
@@ -105,32 +94,34 @@ fn has_enum(table: &[Record]) -> bool
 }
 
 // All faults of pass 4, with arrays for the longest table.
-fn check_all(table: &[Record], buffer: &mut [u8]) -> Tally
-    requires { length table.now ≤ 1600 }
-    ensures { log result buffer.new ≡ logged buffer.old (pass4 table.now) }
+fn check_all(table: Table, buffer: &mut [u8]) -> Tally
+    ensures { log result buffer.new ≡ logged buffer.old (pass4 table.entry.records.now) }
 {
-    let names = marks_of(table, Compared::TagNames);
-    let values = marks_of(table, Compared::TagValues);
+    let names = marks_of(table.records, Compared::TagNames);
+    let values = marks_of(table.records, Compared::TagValues);
     let mut room = Room {
         places: [0; MOST_RECORDS],
         lows: [0; MOST_RECORDS],
         highs: [0; MOST_RECORDS],
     };
     let marked = MarkedTags {
-        table,
+        table: table.records,
         names: &names,
         values: &values,
     };
-    note_enums(&marked, &mut room, buffer)
+    let mut tally = faults::no_faults();
+    for d in 0..marked.table.len() {
+        tally = note_place(&marked, d, &mut room, tally, buffer);
+    }
+    tally
 }
 
 // All faults of pass 4. Without a bound on the table their number, which grows with the product of values and ranges, would not fit the
 // total. Without an enum no array is cleared.
-pub fn check_enum_declarations(table: &[Record], buffer: &mut [u8]) -> Tally
-    requires { length table.now ≤ 1600 }
-    ensures { log result buffer.new ≡ logged buffer.old (pass4 table.now) }
+pub fn check_enum_declarations(table: Table, buffer: &mut [u8]) -> Tally
+    ensures { log result buffer.new ≡ logged buffer.old (pass4 table.entry.records.now) }
 {
-    if !has_enum(table) {
+    if !has_enum(table.records) {
         return faults::no_faults();
     }
     check_all(table, buffer)

@@ -6,4 +6,4 @@ use Rattle.enum_declarations.proofs.check_enum_declarations.Goals as goal
 
 pub returns-then-not-has_enum : goal.returns-then-not-has_enum
 returns-then-not-has_enum c =
-    rw (none-at-all c.args.table.now (sym c.has_enum.ensures ∙ c.if-not-has_enum.true), c.no_faults.ensures) (noted-none _ ∙ noted-logged _ _)
+    rw (none-at-all c.args.table.records.now (sym c.has_enum.ensures ∙ c.if-not-has_enum.true), c.no_faults.ensures) (noted-none _ ∙ noted-logged _ _)

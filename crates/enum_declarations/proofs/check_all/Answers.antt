@@ -1,4 +1,4 @@
--- `enum_declarations::note_enums` meets its contract: after d turns the faults of the places below d are noted. Assumes nothing.
+-- `enum_declarations::check_all` meets its contract: after d turns the faults of the places below d are noted. Assumes nothing.
 use borrow.Author.Rules.{rules}
 use native.Mathlib.Omega.{arith}
 use mathlib.Core.Path.{refl, ◌∙◌}
@@ -6,15 +6,15 @@ use Rattle.rules.specs.EnumDeclarations.{pass4}
 use Rattle.faults.specs.Notes.{no_faults}
 use Rattle.faults.proofs.Laws.{noted-start, noted-place, noted-end, noted-logged, each-total}
 use Rattle.enum_declarations.proofs.Laws.{place-few}
-use Rattle.enum_declarations.proofs.note_enums.Goals as goal
+use Rattle.enum_declarations.proofs.check_all.Goals as goal
 
 pub loop-d-init : goal.loop-d-init
 loop-d-init c = rw c.no_faults-tally.ensures (noted-start _ _)
 
 pub note_place-tally-requires : goal.note_place-tally-requires
 note_place-tally-requires c =
-    let total = each-total _ 3000000 c.loop-d.d no_faults _ (place-few c.args.marked.now.table.now (search rules)) c.loop-d.invariant in
-    (search rules, search rules, omega arith)
+    let total = each-total _ 3000000 c.loop-d.d no_faults _ (place-few c.args.table.records.now c.args.table.few) c.loop-d.invariant in
+    (search rules, c.args.table.few, omega arith)
 
 pub loop-d-preserved : goal.loop-d-preserved
 loop-d-preserved c =
