@@ -6,6 +6,7 @@ use native.Mathlib.Omega.{arith}
 use native.Mathlib.Decide.{dec_lt}
 use lib.ListN.{length, take, take-append-drop, length-append}
 use native.Mathlib.Nat.{add-zero}
+use Rattle.std.specs.Iterator.{Yields, Drains, YieldsFirst}
 use Rattle.rules.specs.Bytes.{written}
 use Rattle.rules.specs.Table.{record_bytes, encode}
 use Rattle.rules.specs.Places.{each}
@@ -41,13 +42,17 @@ module _ (b : List ℕ) (c : ℕ) where
       let k : 40 * d ≡ 40 * c + length (encode xs) = omega arith in
       rw (k, written-more b (encode xs) (encode ys) (40 * c) (omega arith), encode-append xs ys)
 
+-- calls that gave xs and then nothing gave all that was left
+yielded : {S A : Type 0} (rest : S → List A) (s t : S) (xs : List A) → Yields (YieldsFirst rest) s xs t → rest s ≡ xs ++ rest t
+yielded rest s t [] e = ap rest e
+yielded rest s t (x ∷ xs) y = y.1 ∙ ap (λ l. x ∷ l) (yielded rest y.0 t xs y.2)
+
+pub drained : {S A : Type 0} (rest : S → List A) (s : S) (xs : List A) → Drains (YieldsFirst rest) s xs → rest s ≡ xs
+drained rest s xs d = yielded rest s d.1.0 xs d.1.1 ∙ ap (λ l. xs ++ l) d.1.2.0 ∙ append-nil xs
+
 pub ruleset puts = (put-nil, put-one, length-put, put_then, length-append)
 
--- the records ys, written over b' from place n on, complete the records xs written over b from place c on
-abbrev pub Left : List ℕ → ℕ → List Record → List ℕ → ℕ → List Record → Type 0
-Left b c xs b' n ys = (put b' n ys ≡ put b c xs) × (n + length ys ≡ c + length xs) × (length b' ≡ length b)
-
-pub ruleset what_becomes = (put-nil, desugared-cases)
+pub ruleset what_becomes = (puts, desugared-cases)
 
 -- ---- the whole table
 

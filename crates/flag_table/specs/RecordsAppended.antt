@@ -12,6 +12,10 @@ put b c xs = written b (record_length * c) (encode xs)
 abbrev pub RecordsAppended : List ℕ → ℕ → List Record → List ℕ → ℕ → Type 0
 RecordsAppended b c xs b' c' = (b' ≡ put b c xs) × (c' ≡ c + length xs)
 
+-- n records fit into b from place c on
+abbrev pub Room : List ℕ → ℕ → ℕ → Type 0
+Room b c n = record_length * (c + n) ≤ length b
+
 -- the records xs fit into b from place c on
 abbrev pub RoomForRecords : List ℕ → ℕ → List Record → Type 0
-RoomForRecords b c xs = record_length * (c + length xs) ≤ length b
+RoomForRecords b c xs = Room b c (length xs)

@@ -1,11 +1,13 @@
 // The table with flags, written record by record.
 #![tactic(auto)]
 
-ghost use Rattle.std.specs.Prelude.{◌≡◌, [], ◌∷◌, ◌++◌, ◌+◌, ◌-◌, ◌<◌, ◌≤◌, length};
+ghost use Rattle.std.specs.Prelude.{◌≡◌, List, [], ◌∷◌, ◌<◌, length};
+ghost use Rattle.std.specs.Iterator.{IsFinite, Drains, size};
 ghost use Rattle.rules.specs.Bytes.{written};
 ghost use Rattle.rules.specs.Table.{encode};
-ghost use Rattle.rules.specs.DesugarFlags.{members_start, entries_from, flag_of, condition_at, entries_at, own_entries, desugared_at, desugared};
-ghost use Rattle.flag_table.specs.RecordsAppended.{RecordsAppended, RoomForRecords};
+ghost use Rattle.rules.specs.DesugarFlags.{members_start, flag_of, condition_at, desugared_at, desugared};
+ghost use Rattle.rules.specs.declared.Record.{Record};
+ghost use Rattle.flag_table.specs.RecordsAppended.{RecordsAppended, Room, RoomForRecords};
 
 use flag_sizes::EntryCounts;
 use flag_sizes::conditions::next_start;
@@ -27,7 +29,7 @@ fn flag_of(r: Record) -> Record
 }
 
 // Writes `r` at place `count`. Buffer and count stay two parameters: of a struct that holds the lent buffer, nothing is known of the lender's
-// bytes at its end.
+// bytes at its end. That there is room stays a clause: each function asks it for other records, so no type can say it once.
 #[tactic(auto, using(crate::proofs::Writing::puts))]
 fn append(out: &mut [u8], count: usize, r: Record) -> usize
     requires { RoomForRecords out.old count (r ∷ []) }
@@ -37,34 +39,17 @@ fn append(out: &mut [u8], count: usize, r: Record) -> usize
     count + 1
 }
 
-// Writes the entries of the conditions that name `flag`, from place `from` to the end of the declaration.
+// Writes the records that an iterator gives, one after another.
 #[tactic(auto, using(crate::proofs::Writing::puts))]
-fn write_entries(table: &[Record], flag: u16, from: usize, out: &mut [u8], count: usize) -> usize
-    requires { RoomForRecords out.old count (entries_from table.now flag from) }
-    ensures { RecordsAppended out.old count (entries_from table.now flag from) out.new result }
+fn append_all<I: Iterator<Item = Record> + Drop>(records: I, out: &mut [u8], count: usize) -> usize
+    requires can { I.can_next records }
+    requires ends { IsFinite (I.remaining records) }
+    requires room { Room out.old count (size (I.remaining records)) }
+    ensures { (rs : List Record) × Drains I.next_gives records rs × RecordsAppended out.old count rs out.new result }
 {
-    let entries = Naming {
-        table,
-        flag,
-        place: from,
-    };
     let mut n = count;
-    for entry in entries {
-        n = append(out, n, entry);
-    }
-    n
-}
-
-// Writes the entries that stand one after another from place `from` on.
-#[tactic(auto, using(crate::proofs::Writing::puts))]
-fn write_own(table: &[Record], from: usize, out: &mut [u8], count: usize) -> usize
-    requires { RoomForRecords out.old count (entries_at table.now from (length table.now - from)) }
-    ensures { RecordsAppended out.old count (entries_at table.now from (length table.now - from)) out.new result }
-{
-    let entries = Standing { table, place: from };
-    let mut n = count;
-    for entry in entries {
-        n = append(out, n, entry);
+    for r in records {
+        n = append(out, n, r);
     }
     n
 }
@@ -81,33 +66,6 @@ fn write_head(table: &[Record], place: usize, r: Record, out: &mut [u8], count: 
         return append(out, n, condition);
     }
     n
-}
-
-// Writes `r`, which stands at `place`, as it is, with its condition and the entries that it had.
-#[tactic(auto, using(crate::proofs::Writing::puts))]
-fn write_plain(table: &[Record], place: usize, r: Record, out: &mut [u8], count: usize) -> usize
-    requires { (place < 1600) × RoomForRecords out.old count (r ∷ condition_at table.now (place + 1) ++ own_entries table.now place) }
-    ensures { RecordsAppended out.old count (r ∷ condition_at table.now (place + 1) ++ own_entries table.now place) out.new result }
-{
-    let n = write_head(table, place + 1, r, out, count);
-    write_own(table, place + (n - count), out, n)
-}
-
-// Writes `r`, which stands at `place`, as a Flag with its condition and the entries made for it.
-#[tactic(auto, using(crate::proofs::Writing::puts))]
-fn write_flag(
-    table: &[Record],
-    place: usize,
-    r: Record,
-    members: usize,
-    out: &mut [u8],
-    count: usize,
-) -> usize
-    requires { (place < 1600) × RoomForRecords out.old count (flag_of r ∷ condition_at table.now (place + 1) ++ entries_from table.now r.name members) }
-    ensures { RecordsAppended out.old count (flag_of r ∷ condition_at table.now (place + 1) ++ entries_from table.now r.name members) out.new result }
-{
-    let n = write_head(table, place + 1, flag_of(r), out, count);
-    write_entries(table, r.name, members, out, n)
 }
 
 // Writes what the record at `place` becomes.
@@ -129,9 +87,20 @@ fn write_at(
         return count;
     }
     if counts.counts[place] == 0 {
-        return write_plain(table, place, r, out, count);
+        let n = write_head(table, place + 1, r, out, count);
+        let standing = Standing {
+            table,
+            place: place + (n - count),
+        };
+        return append_all(standing, out, n);
     }
-    write_flag(table, place, r, members, out, count)
+    let n = write_head(table, place + 1, flag_of(r), out, count);
+    let naming = Naming {
+        table,
+        flag: r.name,
+        place: members,
+    };
+    append_all(naming, out, n)
 }
 
 // Writes the whole table.
