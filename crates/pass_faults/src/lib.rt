@@ -12,18 +12,16 @@ ghost use Rattle.rules.specs.FixedFields.{pass6};
 ghost use Rattle.rules.specs.PayloadFields.{pass7};
 ghost use Rattle.rules.specs.ArrayFields.{pass8};
 ghost use Rattle.rules.specs.PaddingFields.{pass9};
-ghost use Rattle.repeats.specs.Marks.{Marked};
-ghost use Rattle.repeats.specs.declared.marks.Compared.TheVariants.{Sizes, ElementSizes};
-ghost use Rattle.size_fields.specs.SizeStarts.{SizeStarts};
-ghost use Rattle.payload_fields.specs.Parents.{Parents};
 ghost use Rattle.pass_faults.specs.Listed.{is_among, Lists};
 
 use declarations::Names;
-use declarations::starts::is_large;
+use declarations::starts::large;
 use faults::notes::note_found;
-use repeats::marks::{Compared, marks_of};
+use payload_fields::parents::ParentMarks;
+use repeats::marks::{Compared, Marks, marks_of};
 use rules::limits::MOST_RECORDS;
 use rules::{Fault, Record, Tally};
+use size_fields::Sizes;
 use table::{NO_PLACE, REMAINDERS};
 
 // Whether the bit of this kind is set.
@@ -73,45 +71,34 @@ pub fn check_scopes(table: &[Record], buffer: &mut [u8]) -> Tally
     ensures { log result buffer.new ≡ logged buffer.old (pass1 table.now) }
 {
     // An Option of the array would be cleared for small tables, too: twice the instructions for one of 7 records.
-    if !is_large(table) {
+    let Some(large) = large(table) else {
         return scopes(&Names::new(table), buffer);
-    }
+    };
     let mut starts = [NO_PLACE; REMAINDERS];
-    scopes(&Names::with_starts(table, &mut starts), buffer)
+    scopes(&Names::with_starts(large, &mut starts), buffer)
 }
 
 // Pass 3.
 pub fn check_field_identifiers(table: &[Record], buffer: &mut [u8]) -> Tally
     ensures { log result buffer.new ≡ logged buffer.old (pass3 table.now) }
 {
+    let what = Compared::FieldNames;
     // No array for a small table, as in pass 1.
-    if !is_large(table) {
-        return field_identifiers::check_field_identifiers(table, &[], buffer);
+    if large(table).is_none() {
+        return field_identifiers::check_field_identifiers(&Marks::new(table, what), buffer);
     }
-    let marks = marks_of(table, Compared::FieldNames);
-    field_identifiers::check_field_identifiers(table, &marks, buffer)
+    let marks = &marks_of(table, what);
+    field_identifiers::check_field_identifiers(&Marks { table, what, marks }, buffer)
 }
 
-// The faults of sizes, where `sizes` and `elements` say which sizes may repeat a name, and `starts` where to search for what they name.
-fn sizes(
-    table: &[Record],
-    sizes: &[bool],
-    elements: &[bool],
-    starts: &[u16],
-    buffer: &mut [u8],
-) -> Tally
-    requires { Marked table.now Sizes sizes.now × Marked table.now ElementSizes elements.now × SizeStarts table.now starts.now }
-    ensures { log result buffer.new ≡ logged buffer.old (pass5 table.now) }
+// The faults of sizes, by what is known of them.
+fn sizes(sizes: &Sizes, buffer: &mut [u8]) -> Tally
+    ensures { log result buffer.new ≡ logged buffer.old (pass5 sizes.now.table.now) }
 {
     run_places(
-        table,
+        sizes.table,
         kinds::SIZES,
-        |place| {
-            (
-                size_fields::duplicates::size_again(table, sizes, elements, place),
-                size_fields::targets::size_target(table, starts, place),
-            )
-        },
+        |place| size_fields::at_place(sizes, place),
         buffer,
     )
 }
@@ -121,14 +108,20 @@ pub fn check_size_fields(table: &[Record], buffer: &mut [u8]) -> Tally
     ensures { log result buffer.new ≡ logged buffer.old (pass5 table.now) }
 {
     // No array for a small table, as in pass 1, nor for one without a size.
-    if !is_large(table) || !table.iter().any(|r| kinds::is_size(r.kind)) {
-        return sizes(table, &[], &[], &[], buffer);
-    }
+    let Some(large) = large(table).filter(|_| table.iter().any(|r| kinds::is_size(r.kind))) else {
+        return sizes(&Sizes::new(table), buffer);
+    };
     let repeated = marks_of(table, Compared::Sizes);
     let elements = marks_of(table, Compared::ElementSizes);
     let mut starts = [NO_PLACE; MOST_RECORDS];
-    size_fields::starts::fill(table, &mut starts);
-    sizes(table, &repeated, &elements, &starts, buffer)
+    size_fields::starts::fill(large, &mut starts);
+    let known = Sizes {
+        table,
+        sizes: &repeated,
+        elements: &elements,
+        starts: &starts,
+    };
+    sizes(&known, buffer)
 }
 
 // The faults of fixed fields, by what is known of the names.
@@ -148,22 +141,22 @@ pub fn check_fixed_fields(table: &[Record], buffer: &mut [u8]) -> Tally
     ensures { log result buffer.new ≡ logged buffer.old (pass6 table.now) }
 {
     // No array for a small table, as in pass 1, nor for one without an enum to look up.
-    if !is_large(table) || !table.iter().any(|r| r.kind == kinds::FIXED_ENUM) {
+    let Some(large) = large(table).filter(|_| table.iter().any(|r| r.kind == kinds::FIXED_ENUM))
+    else {
         return fixed_values(&Names::new(table), buffer);
-    }
+    };
     let mut starts = [NO_PLACE; REMAINDERS];
-    fixed_values(&Names::with_starts(table, &mut starts), buffer)
+    fixed_values(&Names::with_starts(large, &mut starts), buffer)
 }
 
-// The faults of payloads, where `parents` says which names a child with a field may give for its parent.
-fn payloads(table: &[Record], parents: &[bool], buffer: &mut [u8]) -> Tally
-    requires { Parents table.now parents.now }
-    ensures { log result buffer.new ≡ logged buffer.old (pass7 table.now) }
+// The faults of payloads, by what is known of the parents' names.
+fn payloads(parents: &ParentMarks, buffer: &mut [u8]) -> Tally
+    ensures { log result buffer.new ≡ logged buffer.old (pass7 parents.now.table.now) }
 {
     run_places(
-        table,
+        parents.table,
         kinds::PAYLOADS_AND_NAMED_DECLS,
-        |place| (payload_fields::at_place(table, parents, place), None),
+        |place| (payload_fields::at_place(parents, place), None),
         buffer,
     )
 }
@@ -173,12 +166,11 @@ pub fn check_payload_fields(table: &[Record], buffer: &mut [u8]) -> Tally
     ensures { log result buffer.new ≡ logged buffer.old (pass7 table.now) }
 {
     // No array for a small table, as in pass 1.
-    if !is_large(table) {
-        return payloads(table, &[], buffer);
+    if large(table).is_none() {
+        return payloads(&ParentMarks::new(table), buffer);
     }
-    let mut parents = [false; REMAINDERS];
-    payload_fields::parents::mark_parents(table, &mut parents);
-    payloads(table, &parents, buffer)
+    let mut marks = [false; REMAINDERS];
+    payloads(&ParentMarks::with_marks(table, &mut marks), buffer)
 }
 
 // Pass 8.

@@ -4,4 +4,4 @@ use Rattle.size_fields.proofs.starts.Laws.{starts-unknown}
 use Rattle.pass_faults.proofs.check_size_fields.Goals as goal
 
 pub fill-requires : goal.fill-requires
-fill-requires c = (search rules, search rules, starts-unknown _ 1600)
+fill-requires c = (search rules, starts-unknown _ 1600)
