@@ -1,14 +1,14 @@
 // The passes in order: pass 1, and passes 3 to 9 on the listed order.
 #![tactic(auto)]
 
-ghost use Rattle.std.specs.Prelude.{◌≡◌, ◌<◌, ◌≤◌, MatchResult, length};
+ghost use Rattle.std.specs.Prelude.{◌≡◌, ◌<◌, ◌≤◌, MatchResult};
 ghost use Rattle.rules.specs.Faults.{log, logged};
 ghost use Rattle.rules.specs.Scopes.{pass1};
 ghost use Rattle.pass_checks.specs.Later.{outcome, later};
 
 use enum_declarations::check_enum_declarations;
 use pass_faults::{
-    check_array_fields, check_field_identifiers, check_fixed_fields, check_padding_fields,
+    Table, check_array_fields, check_field_identifiers, check_fixed_fields, check_padding_fields,
     check_payload_fields, check_scopes, check_size_fields,
 };
 use rules::{Record, Tally};
@@ -41,15 +41,14 @@ fn clean(pass: u8, tally: Tally) -> Result<(), Faulty>
 }
 
 // Passes 3 to 9 in order, up to the first that finds faults. Only that one writes.
-pub fn run_later(table: &[Record], buffer: &mut [u8]) -> Result<(), Faulty>
-    requires { length table.now ≤ 1600 }
-    ensures { outcome result buffer.new ≡ later table.now buffer.old }
+pub fn run_later(table: Table, buffer: &mut [u8]) -> Result<(), Faulty>
+    ensures { outcome result buffer.new ≡ later table.entry.records.now buffer.old }
 {
-    clean(3, check_field_identifiers(table, buffer))?;
+    clean(3, check_field_identifiers(table.records, buffer))?;
     clean(4, check_enum_declarations(table, buffer))?;
-    clean(5, check_size_fields(table, buffer))?;
-    clean(6, check_fixed_fields(table, buffer))?;
-    clean(7, check_payload_fields(table, buffer))?;
-    clean(8, check_array_fields(table, buffer))?;
-    clean(9, check_padding_fields(table, buffer))
+    clean(5, check_size_fields(table.records, buffer))?;
+    clean(6, check_fixed_fields(table.records, buffer))?;
+    clean(7, check_payload_fields(table.records, buffer))?;
+    clean(8, check_array_fields(table.records, buffer))?;
+    clean(9, check_padding_fields(table.records, buffer))
 }

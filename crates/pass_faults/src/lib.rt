@@ -24,6 +24,9 @@ use rules::{Fault, Record, Tally};
 use size_fields::Sizes;
 use table::{NO_PLACE, REMAINDERS};
 
+// pass_checks takes a table as this type, and does not name the crate table.
+pub use table::Table;
+
 // Whether the bit of this kind is set.
 #[tactic(auto, unfolding(crate::specs::Listed::is_among))]
 fn is_among(kinds: u64, kind: u8) -> bool
