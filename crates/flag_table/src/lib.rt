@@ -82,10 +82,10 @@ fn write_at(
     ensures { RecordsAppended out.old count (desugared_at counts.now.table.records.now place) out.new result }
 {
     let table = counts.table.records;
-    let r = table::at(table, place);
-    if kinds::is_condition_or_entry(r.kind) {
+    if kinds::is_condition_or_entry(table::kind(table, place)) {
         return count;
     }
+    let r = table::at(table, place);
     if counts.counts[place] == 0 {
         let n = write_head(table, place + 1, r, out, count);
         let standing = Standing {
