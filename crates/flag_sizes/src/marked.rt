@@ -41,7 +41,8 @@ fn count_entries(table: &[Record], flag: u16, from: usize) -> usize
     .count()
 }
 
-// A place of a table, where the members of its declaration start, and the marks of the names that its conditions give.
+// A place of a table, where the members of its declaration start, and the marks of the names that its conditions give. The marks are lent at a
+// lifetime of their own: at the table's the borrow checker does not cover that they are lent again.
 #[derive(Drop)]
 pub struct Marked<'a, 'b> {
     table: Table<'a>,
@@ -50,7 +51,7 @@ pub struct Marked<'a, 'b> {
     marks: &'b mut [u16],
 }
 
-// Its records and its place are seen.
+// Contracts see the records and the place. An invariant, as a ghost field would not hold between the writes of a step.
 impl<'a, 'b> Model for Marked<'a, 'b> {
     ghost use Rattle.std.specs.Prelude.{◌≡◌, ◌≤◌, ℕ, List, length};
     ghost use Rattle.rules.specs.declared.Record.{Record};
