@@ -8,7 +8,7 @@ ghost use Rattle.rules.specs.Faults.{log, logged};
 ghost use Rattle.rules.specs.EnumDeclarations.{tags_faults, enum_faults, pass4_at, pass4};
 ghost use Rattle.faults.specs.Notes.{noted_all};
 
-use enum_tags::{EnumTags, MarkedTags};
+use enum_tags::{EnumTags, MarkedTags, TagPlace};
 use repeats::marks::{Compared, marks_of};
 use rules::limits::MOST_RECORDS;
 use rules::{Record, Tally};
@@ -28,10 +28,10 @@ fn note_tags(tags: &EnumTags, tally: Tally, buffer: &mut [u8]) -> Tally
     ensures { log result buffer.new ≡ noted_all (log tally buffer.old) (tags_faults tags.now.marked.table.now tags.now.decl tags.now.count) }
 {
     let mut kept = tally;
-    let mut after = tags.decl + 1;
-    for p in tags.decl + 1..tags.decl + 1 + tags.count {
-        kept = enum_tags::note_tag(tags, after, p, kept, buffer);
-        after = enum_tags::after_range(tags.marked.table, after, p);
+    let mut tag = TagPlace::first(tags);
+    for _ in 0..tags.count {
+        kept = enum_tags::note_tag(tag, kept, buffer);
+        tag = tag.next();
     }
     kept
 }

@@ -43,6 +43,46 @@ pub struct EnumTags<'a, 'b> {
     pub ghost bounded: { Bounds marked.table.now decl count bounds.lows.now bounds.highs.now } by { Prim.hlevel props },
 }
 
+// A place among the tags of an enum. No range stands from `after` up to it, so a search back for the nearest one starts at `after`.
+#[derive(Clone, Copy)]
+pub struct TagPlace<'a> {
+    pub tags: &'a EnumTags<'a, 'a>,
+    pub place: usize,
+    pub after: usize,
+    pub ghost none_between: { range_before tags.now.marked.table.now place ≡ range_before tags.now.marked.table.now after },
+}
+
+impl<'a> TagPlace<'a> {
+    // The first tag.
+    pub fn first(tags: &'a EnumTags<'a, 'a>) -> Self
+        requires { tags.now.decl < 1600 }
+        ensures { (result.tags ≡ tags.entry) × (result.place ≡ tags.now.decl + 1) }
+    {
+        let place = tags.decl + 1;
+        TagPlace {
+            tags,
+            place,
+            after: place,
+        }
+    }
+
+    // The next one.
+    #[tactic(auto, unfolding(rules::specs::Places::nearest))]
+    pub fn next(self) -> Self
+        requires { self.place < 1600 }
+        ensures { (result.tags ≡ self.entry.tags) × (result.place ≡ self.entry.place + 1) }
+    {
+        let tags = self.tags;
+        let behind = self.place + 1;
+        let is_range = table::kind(tags.marked.table, self.place) == kinds::TAG_RANGE;
+        TagPlace {
+            tags,
+            place: behind,
+            after: if is_range { behind } else { self.after },
+        }
+    }
+}
+
 // The range that a search found.
 #[tactic(auto, unfolding(rules::specs::EnumDeclarations::range_found))]
 fn range_found(table: &[Record], found: Option<usize>) -> Record
@@ -171,49 +211,28 @@ fn note_default(marked: &MarkedTags, place: usize, tally: Tally, buffer: &mut [u
     note_three(tally, buffer, x, y, None)
 }
 
-// A value in a range, against the range: no 43. No range stands from `after` up to `place`.
+// A value in a range, against the range: no 43.
 #[tactic(auto, unfolding(rules::specs::EnumDeclarations::inner_faults))]
-fn note_inner(
-    marked: &MarkedTags,
-    after: usize,
-    place: usize,
-    tally: Tally,
-    buffer: &mut [u8],
-) -> Tally
-    requires { (tally.total + 4 < 2 ^ 64) × (range_before marked.now.table.now place ≡ range_before marked.now.table.now after) }
-    ensures { log result buffer.new ≡ noted_all (log tally buffer.old) (inner_faults marked.now.table.now place) }
+fn note_inner(tag: TagPlace, tally: Tally, buffer: &mut [u8]) -> Tally
+    requires { tally.total + 4 < 2 ^ 64 }
+    ensures { log result buffer.new ≡ noted_all (log tally buffer.old) (inner_faults tag.entry.tags.now.marked.table.now tag.entry.place) }
 {
+    let marked = &tag.tags.marked;
     let r = range_found(
         marked.table,
-        search::nearest(marked.table, Target::Range, after),
+        search::nearest(marked.table, Target::Range, tag.after),
     );
-    note_value(marked, lesser(r), greater(r), place, tally, buffer)
+    note_value(marked, lesser(r), greater(r), tag.place, tally, buffer)
 }
 
-// Where no range stands from `after` up to `place`, the same for the next place.
-#[tactic(auto, unfolding(rules::specs::Places::nearest))]
-pub fn after_range(table: &[Record], after: usize, place: usize) -> usize
-    requires { (place < 1600) × (range_before table.now place ≡ range_before table.now after) }
-    ensures { range_before table.now (place + 1) ≡ range_before table.now result }
-{
-    if table::kind(table, place) == kinds::TAG_RANGE {
-        return place + 1;
-    }
-    after
-}
-
-// The tag at `place` of an enum. No range stands from `after` up to `place`.
+// The tag at a place of an enum.
 #[tactic(auto, unfolding(rules::specs::EnumDeclarations::tag_faults))]
-pub fn note_tag(
-    tags: &EnumTags,
-    after: usize,
-    place: usize,
-    tally: Tally,
-    buffer: &mut [u8],
-) -> Tally
-    requires { (tally.total + 1604 < 2 ^ 64) × (range_before tags.now.marked.table.now place ≡ range_before tags.now.marked.table.now after) }
-    ensures { log result buffer.new ≡ noted_all (log tally buffer.old) (tag_faults tags.now.marked.table.now tags.now.decl tags.now.count place) }
+pub fn note_tag(tag: TagPlace, tally: Tally, buffer: &mut [u8]) -> Tally
+    requires { tally.total + 1604 < 2 ^ 64 }
+    ensures { log result buffer.new ≡ noted_all (log tally buffer.old) (tag_faults tag.entry.tags.now.marked.table.now tag.entry.tags.now.decl tag.entry.tags.now.count tag.entry.place) }
 {
+    let tags = tag.tags;
+    let place = tag.place;
     let marked = &tags.marked;
     let most = widths::scalar_max(table::at(marked.table, tags.decl).one);
     match table::kind(marked.table, place) {
@@ -222,7 +241,7 @@ pub fn note_tag(
             note_held(tags, place, kept, buffer)
         }
         kinds::TAG_RANGE => note_range(marked, most, place, tally, buffer),
-        kinds::INNER_VALUE => note_inner(marked, after, place, tally, buffer),
+        kinds::INNER_VALUE => note_inner(tag, tally, buffer),
         kinds::DEFAULT_TAG => note_default(marked, place, tally, buffer),
         _ => tally,
     }

@@ -9,9 +9,9 @@ use Rattle.enum_tags.proofs.note_tag.Goals as goal
 
 pub note_held-requires : goal.note_held-requires
 note_held-requires c =
-    let rs = c.args.tags.now.marked.table.now in
-    let after = total-after _ _ (value_faults rs 0 c.scalar_max-most.result c.args.place) c.note_value-kept.ensures in
-    omega (arith, value-few rs 0 c.scalar_max-most.result c.args.place)
+    let rs = c.args.tag.tags.now.marked.table.now in
+    let after = total-after _ _ (value_faults rs 0 c.scalar_max-most.result c.args.tag.place) c.note_value-kept.ensures in
+    omega (arith, value-few rs 0 c.scalar_max-most.result c.args.tag.place)
 
 pub returns-in-40 : goal.returns-in-40
 unfolding tag_faults
