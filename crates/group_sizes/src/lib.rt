@@ -90,7 +90,8 @@ const TOO_MANY: usize = MOST_RECORDS + 1;
 
 // Writes the sizes of the declarations, in the order of the table: each group stands before what holds a field of it.
 pub fn measure(listed: Listed, targets: &[u16], sizes: &mut [u16])
-    requires { TargetsKnown listed.table.records.now targets.now (length listed.table.records.now) × (length listed.table.records.now ≤ length sizes.old) }
+    requires { TargetsKnown listed.table.records.now targets.now (length listed.table.records.now)
+        × (length listed.table.records.now ≤ length sizes.old) }
     ensures { Sized listed.entry.table.records.now targets.now sizes.new (length listed.entry.table.records.now) }
 {
     let table = listed.table;

@@ -30,7 +30,8 @@ fn by_fit(progress: ExpandProgress) -> Result<usize, InlineError>
 
 // Inlines the groups of a table into a buffer, if the inlined table fits it.
 fn inline_with(groups: &Groups, out: &mut [Record]) -> Result<usize, InlineError>
-    ensures { (result ≡ inlining (length out.old) (inlined groups.now.table.records.now)) × (out.new ≡ inlining_records out.old (inlined groups.now.table.records.now)) }
+    ensures { (result ≡ inlining (length out.old) (inlined groups.now.table.records.now))
+        × (out.new ≡ inlining_records out.old (inlined groups.now.table.records.now)) }
 {
     let n = groups.total();
     if MOST_RECORDS < n {
@@ -44,7 +45,8 @@ fn inline_with(groups: &Groups, out: &mut [Record]) -> Result<usize, InlineError
 
 // Inlines the groups of a table in listed order into a buffer, if the inlined table fits it. Returns how many records it has.
 pub fn inline_groups(listed: Listed, out: &mut [Record]) -> Result<usize, InlineError>
-    ensures value { (result ≡ inlining (length out.old) (inlined listed.entry.table.records.now)) × (out.new ≡ inlining_records out.old (inlined listed.entry.table.records.now)) }
+    ensures value { (result ≡ inlining (length out.old) (inlined listed.entry.table.records.now))
+        × (out.new ≡ inlining_records out.old (inlined listed.entry.table.records.now)) }
     ensures numbered { inlining_numbered result ≡ inlining_numbered (inlining (length out.old) (inlined listed.entry.table.records.now)) }
 {
     let mut targets = [0; MOST_RECORDS];
