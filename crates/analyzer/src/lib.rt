@@ -8,7 +8,7 @@ ghost use Rattle.rules.specs.Replies.{answered, by_passes, answer};
 use passes::check_passes;
 use rules::limits::MOST_RECORDS;
 use rules::{Record, Reply};
-use table::FEW_RECORDS;
+use table::{FEW_RECORDS, Table};
 
 // With room of its own for N records of the table and of the listed table: the caller's buffer changes only on acceptance.
 fn check_in<const N: usize>(input: &[u8], table: &mut [u8], faults: &mut [u8]) -> Reply
@@ -18,7 +18,10 @@ fn check_in<const N: usize>(input: &[u8], table: &mut [u8], faults: &mut [u8]) -
     let mut records = [Record::default(); N];
     let mut listed = [Record::default(); N];
     let n = records::read(input, &mut records);
-    check_passes(&records[..n], &mut listed, table, faults)
+    let input = Table {
+        records: &records[..n],
+    };
+    check_passes(input, &mut listed, table, faults)
 }
 
 // The passes with buffers as large as the table needs.

@@ -112,11 +112,9 @@ module _ (i : List Record) (b : List ℕ) {b' : List ℕ} {out out' : List Recor
     pub listed-few : n ≤ length i
     listed-few = h.2.short
 
-    -- what passes 3 to 9 and inlining require of it
-    pub listed-ready : length i ≤ 1600 → (length (take n out') ≤ 1600) × GroupsFirst (take n out')
-    listed-ready few =
-        rw h.2.records
-        (omega (arith, h.2.count, h.2.short), groups-first i h.0 (unique-names i clean))
+    -- what its type says of it
+    pub listed-first : GroupsFirst (take n out')
+    listed-first = rw h.2.records (groups-first i h.0 (unique-names i clean))
 
     pub listed_answer : (t : List ℕ) {x : Answer} → x ≡ by_listed (take n out') t b' → x ≡ by_passes i t b
     listed_answer t e =

@@ -8,6 +8,7 @@ use replay_cases::part::Part;
 use rules::limits::{FAULT_LENGTH, MOST_RECORDS, TABLE_LENGTH};
 use rules::{LayoutError, Record, Reply, Tally};
 use std::io::{Input, Print, Read};
+use table::Table;
 
 // No record has this kind.
 const NO_KIND: u8 = 255;
@@ -32,12 +33,15 @@ fn print_faults<R: Print>(rt: &R, tally: Tally, faults: &[u8], end: u8) {
     replay_cases::print(rt, replay_cases::digest(faults), end);
 }
 
+// The longest input that is read has one record more than a table may have.
+const MOST_READ: usize = MOST_RECORDS + 1;
+
 fn print_scope<R: Print>(rt: &R, input: &[u8], faults: &mut [u8]) {
     replay_cases::fill(faults);
-    if MOST_RECORDS < records::count(input) {
+    if MOST_READ < records::count(input) {
         return;
     }
-    let mut table = [Record::default(); MOST_RECORDS];
+    let mut table = [Record::default(); MOST_READ];
     let n = records::read(input, &mut table);
     let tally = pass_checks::scope_new(&table[..n], faults);
     print_faults(rt, tally, faults, b'\n');
@@ -52,9 +56,12 @@ fn order(input: &[u8], faults: &mut [u8], listed: &mut [Record]) -> Option<Resul
     if MOST_RECORDS < records::count(input) {
         return None;
     }
-    let mut table = [Record::default(); MOST_RECORDS];
-    let n = records::read(input, &mut table);
-    Some(decl_order::check_decl_identifiers(&table[..n], faults, listed))
+    let mut records = [Record::default(); MOST_RECORDS];
+    let n = records::read(input, &mut records);
+    let table = Table {
+        records: &records[..n],
+    };
+    Some(decl_order::check_decl_identifiers(table, faults, listed))
 }
 
 // Writes records to the start of a buffer.
@@ -93,9 +100,7 @@ fn print_order<R: Print>(rt: &R, input: &[u8], faults: &mut [u8], out: &mut [u8]
 }
 
 // The lowest of passes 3 to 9 that finds faults, or 0, and its faults.
-fn print_later<R: Print>(rt: &R, listed: &[Record], faults: &mut [u8])
-    requires { length listed.now ≤ 1600 }
-{
+fn print_later<R: Print>(rt: &R, listed: Table, faults: &mut [u8]) {
     match pass_checks::run_later(listed, faults) {
         Err(faulty) => {
             let total = faulty.total;
@@ -117,7 +122,11 @@ fn print_later<R: Print>(rt: &R, listed: &[Record], faults: &mut [u8])
 fn print_checks<R: Print>(rt: &R, input: &[u8], faults: &mut [u8]) {
     let mut listed = [Record::default(); MOST_RECORDS];
     if let Some(checked) = order(input, faults, &mut listed) {
-        print_later(rt, &listed[..checked.unwrap_or(0)], faults);
+        let n = checked.unwrap_or(0);
+        let table = Table {
+            records: &listed[..n],
+        };
+        print_later(rt, table, faults);
     }
 }
 

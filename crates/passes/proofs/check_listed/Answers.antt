@@ -4,10 +4,10 @@ use Rattle.passes.proofs.check_listed.Goals as goal
 
 pub returns-in-Err : goal.returns-in-Err
 returns-in-Err c =
-    faulty-later c.args.listed.now c.args.faults.now _ c.args.table.now c.run_later.ensures
+    faulty-later c.args.listed.table.records.now c.args.faults.now _ c.args.table.now c.run_later.ensures
     c.in-Err.is
 
 pub returns-in-Ok : goal.returns-in-Ok
 returns-in-Ok c =
-    clean-later c.args.listed.now c.args.faults.now _ c.args.table.now c.run_later.ensures
+    clean-later c.args.listed.table.records.now c.args.faults.now _ c.args.table.now c.run_later.ensures
     c.write_listed.result c.in-Ok.is c.write_listed.ensures
