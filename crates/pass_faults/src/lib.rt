@@ -94,16 +94,34 @@ pub fn check_field_identifiers(table: &[Record], buffer: &mut [u8]) -> Tally
     field_identifiers::check_field_identifiers(&Marks { table, what, marks }, buffer)
 }
 
-// The faults of sizes, by what is known of them.
-fn sizes(sizes: &Sizes, buffer: &mut [u8]) -> Tally
-    ensures { log result buffer.new ≡ logged buffer.old (pass5 sizes.now.table.now) }
+// The faults of sizes, by what is known of them, which the loop has as its own so that it is not read again at each place.
+fn sizes(sizes: Sizes, buffer: &mut [u8]) -> Tally
+    ensures { log result buffer.new ≡ logged buffer.old (pass5 sizes.entry.table.now) }
 {
     run_places(
         sizes.table,
         kinds::SIZES,
-        |place| size_fields::at_place(sizes, place),
+        |place| size_fields::at_place(&sizes, place),
         buffer,
     )
+}
+
+// Pass 5 on a large table. A function of its own: in that which calls it, the arrays would be cleared for small tables, too.
+#[inline(never)]
+fn marked_sizes(table: Table, buffer: &mut [u8]) -> Tally
+    ensures { log result buffer.new ≡ logged buffer.old (pass5 table.entry.records.now) }
+{
+    let repeated = marks_of(table.records, Compared::Sizes);
+    let elements = marks_of(table.records, Compared::ElementSizes);
+    let mut starts = [NO_PLACE; MOST_RECORDS];
+    size_fields::starts::fill(table, &mut starts);
+    let known = Sizes {
+        table: table.records,
+        sizes: &repeated,
+        elements: &elements,
+        starts: &starts,
+    };
+    sizes(known, buffer)
 }
 
 // Pass 5.
@@ -111,20 +129,10 @@ pub fn check_size_fields(table: &[Record], buffer: &mut [u8]) -> Tally
     ensures { log result buffer.new ≡ logged buffer.old (pass5 table.now) }
 {
     // No array for a small table, as in pass 1, nor for one without a size.
-    let Some(large) = large(table).filter(|_| table.iter().any(|r| kinds::is_size(r.kind))) else {
-        return sizes(&Sizes::new(table), buffer);
-    };
-    let repeated = marks_of(table, Compared::Sizes);
-    let elements = marks_of(table, Compared::ElementSizes);
-    let mut starts = [NO_PLACE; MOST_RECORDS];
-    size_fields::starts::fill(large, &mut starts);
-    let known = Sizes {
-        table,
-        sizes: &repeated,
-        elements: &elements,
-        starts: &starts,
-    };
-    sizes(&known, buffer)
+    match large(table).filter(|_| table.iter().any(|r| kinds::is_size(r.kind))) {
+        Some(large) => marked_sizes(large, buffer),
+        None => sizes(Sizes::new(table), buffer),
+    }
 }
 
 // The faults of fixed fields, by what is known of the names.
