@@ -49,6 +49,7 @@ impl Kept {
     }
 
     // One place more.
+    #[tactic(auto, unfolding(rules::specs::Table::at))]
     fn step(&mut self, table: Table, place: usize, starts: &mut [u16])
         requires { (place < length table.records.now) × (1600 ≤ length starts.old) × KeptPlaces table.records.now self.old.last self.old.end (place + 1) × SizeStarts table.records.now starts.old }
         ensures { SizeStarts table.entry.records.now starts.new × KeptPlaces table.entry.records.now self.new.last self.new.end place }
@@ -65,6 +66,7 @@ impl Kept {
 
 // Fills `starts`, in which no start is known at first: all places of the table, from the last to the first. What is known of them stands in
 // clauses: of the slices that a struct holds by &mut nothing is known where the struct ends.
+#[tactic(auto, using(crate::proofs::starts::Laws::kept_none))]
 pub fn fill(table: Table, starts: &mut [u16])
     requires { (1600 ≤ length starts.old) × SizeStarts table.records.now starts.old }
     ensures { SizeStarts table.entry.records.now starts.new }

@@ -29,8 +29,8 @@ holds-miss : (j x : ℕ) (r : Record) → is_decl r.kind ≡ false → (x ≡ na
 holds-miss j x r d o = grind (arith, common_steps)
 
 -- no place is kept at first
-pub kept-none : (rs : List Record) → length rs ≤ 1600 → KeptPlaces rs (replicate 4093 65535) (length rs) (length rs)
-kept-none rs l =
+pub kept_none : (rs : List Record) → length rs ≤ 1600 → KeptPlaces rs (replicate 4093 65535) (length rs) (length rs)
+kept_none rs l =
     record {
       skips = λ j x.
           let z : start_for (replicate 4093 65535) (length rs) x ≡ length rs = grind (arith, none-known 4093 (x % 4093)) in

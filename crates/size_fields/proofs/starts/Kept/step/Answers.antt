@@ -4,11 +4,6 @@ use Rattle.rules.specs.Table.{at}
 use Rattle.size_fields.proofs.starts.Laws.{kept-other}
 use Rattle.size_fields.proofs.starts.Kept.step.Goals as goal
 
-pub set_starts-requires : goal.set_starts-requires
-unfolding at
-set_starts-requires c =
-    (c.requires.1, sym c.is_decl.ensures ∙ c.if-is_decl.true, c.requires.2, c.requires.3)
-
 pub returns-else-is_decl : goal.returns-else-is_decl
 unfolding at
 returns-else-is_decl c =
