@@ -8,7 +8,7 @@ ghost use Rattle.repeats.specs.declared.marks.Compared.TheVariants.{FieldNames};
 
 use faults::notes::note_found;
 use repeats::marks::Marks;
-use rules::{Tally, codes};
+use rules::{Tally, Target, codes};
 
 // All faults of the pass, where `marks` says which fields may repeat a name.
 pub fn check_field_identifiers(marks: &Marks, buffer: &mut [u8]) -> Tally
@@ -19,7 +19,14 @@ pub fn check_field_identifiers(marks: &Marks, buffer: &mut [u8]) -> Tally
     for (place, r) in marks.table.iter().enumerate() {
         // Mark and kind are tested in one branch: few fields that repeat no name keep their mark.
         if marks.at(place) & kinds::is_named_field(r.kind) {
-            let found = marks.again(codes::DUPLICATE_FIELD_IDENTIFIER, place);
+            // By `marks.again`, which asks what the marks compare, a table of 1,599 fields took 9,500 instructions more.
+            let target = Target::NameOrDecl(r.name);
+            let found = repeats::again(
+                codes::DUPLICATE_FIELD_IDENTIFIER,
+                marks.table,
+                target,
+                place,
+            );
             tally = note_found(tally, buffer, found);
         }
     }
