@@ -229,7 +229,8 @@ fn note_inner(tag: TagPlace, tally: Tally, buffer: &mut [u8]) -> Tally
 #[tactic(auto, unfolding(rules::specs::EnumDeclarations::tag_faults))]
 pub fn note_tag(tag: TagPlace, tally: Tally, buffer: &mut [u8]) -> Tally
     requires { tally.total + 1604 < 2 ^ 64 }
-    ensures { log result buffer.new ≡ noted_all (log tally buffer.old) (tag_faults tag.entry.tags.now.marked.table.now tag.entry.tags.now.decl tag.entry.tags.now.count tag.entry.place) }
+    ensures { log result buffer.new ≡ noted_all (log tally buffer.old)
+        (tag_faults tag.entry.tags.now.marked.table.now tag.entry.tags.now.decl tag.entry.tags.now.count tag.entry.place) }
 {
     let tags = tag.tags;
     let place = tag.place;

@@ -33,7 +33,8 @@ pub fn again(code: u16, table: &[Record], target: Target, place: usize) -> Optio
 impl Marks<'_> {
     // As `again`, for what is compared of the record at `place`, without a search where the mark is false.
     pub fn again(&self, code: u16, place: usize) -> Option<Fault>
-        ensures { option_to_list result ≡ again code self.now.table.now (target_of self.now.what (compared_of self.now.what (at self.now.table.now place))) place }
+        ensures { option_to_list result
+            ≡ again code self.now.table.now (target_of self.now.what (compared_of self.now.what (at self.now.table.now place))) place }
     {
         if !self.at(place) {
             return None;
