@@ -8,10 +8,11 @@ ghost use Rattle.pass_checks.specs.Later.{outcome, later};
 
 use enum_declarations::check_enum_declarations;
 use pass_faults::{
-    Table, check_array_fields, check_field_identifiers, check_fixed_fields, check_padding_fields,
+    check_array_fields, check_field_identifiers, check_fixed_fields, check_padding_fields,
     check_payload_fields, check_scopes, check_size_fields,
 };
 use rules::{Record, Tally};
+use table::Table;
 
 // All faults of pass 1.
 pub fn scope_new(table: &[Record], buffer: &mut [u8]) -> Tally

@@ -22,10 +22,7 @@ use repeats::marks::{Compared, Marks, marks_of};
 use rules::limits::MOST_RECORDS;
 use rules::{Fault, Record, Tally};
 use size_fields::Sizes;
-use table::{NO_PLACE, REMAINDERS};
-
-// pass_checks takes a table as this type, and does not name the crate table.
-pub use table::Table;
+use table::{NO_PLACE, REMAINDERS, Table};
 
 // Whether the bit of this kind is set.
 #[tactic(auto, unfolding(crate::specs::Listed::is_among))]

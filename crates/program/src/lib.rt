@@ -19,8 +19,13 @@ const CHUNK_LENGTH: usize = 65_536;
 const TEXT_LENGTH: usize = 340_000;
 
 // The analyzer with these buffers, and its answer, printed at the start of the text.
-fn answer_with(input: &[u8], table: &mut [u8], faults: &mut [u8], text: &mut [u8]) -> usize
-    requires { (340000 ≤ length text.old) × (length table.old ≤ 64000) × (length faults.old ≤ 64000) }
+fn answer_with(
+    input: &[u8],
+    table: &mut [u8],
+    faults: &mut [u8],
+    text: &mut [u8; TEXT_LENGTH],
+) -> usize
+    requires { (length table.old ≤ 64000) × (length faults.old ≤ 64000) }
     ensures { TextBegins text.old (printed (answer input.now table.old faults.old)) text.new result }
 {
     let reply = analyzer::analyze(input, table, faults);
@@ -28,8 +33,7 @@ fn answer_with(input: &[u8], table: &mut [u8], faults: &mut [u8], text: &mut [u8
 }
 
 // All that the program prints for an input, at the start of the text, and its length.
-fn answer_text(input: &[u8], text: &mut [u8]) -> usize
-    requires { 340000 ≤ length text.old }
+fn answer_text(input: &[u8], text: &mut [u8; TEXT_LENGTH]) -> usize
     ensures { TextBegins text.old (program input.now) text.new result }
 {
     let mut table = [0u8; TABLE_LENGTH];
@@ -43,10 +47,9 @@ fn fail<R: Eprint>(rt: &R, what: &str, error: Error) {
 }
 
 // Prints the answer in one piece. A write that fails is said on standard error.
-fn print<R: Print + Eprint>(rt: &R, input: &[u8], text: &mut [u8])
-    requires { 340000 ≤ length text.old }
-{
-    let n = answer_text(input, text);
+fn print<R: Print + Eprint>(rt: &R, input: &[u8]) {
+    let mut text = [0u8; TEXT_LENGTH];
+    let n = answer_text(input, &mut text);
     if let Err(e) = rt.write_all(&text[..n]) {
         fail(rt, "standard output", e);
     }
@@ -58,10 +61,7 @@ pub fn run<R: Input + Print + Eprint>(rt: &R) {
     let mut chunk = [0u8; CHUNK_LENGTH];
     let mut reader = rt.reader();
     match input::read_all(&mut reader, &mut input, &mut chunk) {
-        Ok(n) => {
-            let mut text = [0u8; TEXT_LENGTH];
-            print(rt, &input[..n], &mut text);
-        }
+        Ok(n) => print(rt, &input[..n]),
         Err(e) => fail(rt, "standard input", e),
     }
 }

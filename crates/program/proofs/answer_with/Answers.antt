@@ -6,7 +6,7 @@ use Rattle.program.proofs.answer_with.Goals as goal
 pub append_answer-requires : goal.append_answer-requires
 append_answer-requires c =
     let a = c.analyze-reply in (
-      c.requires.0,
+      omega arith,
       omega arith,
       omega arith,
       whole-answer c.args.input.now c.args.table.now c.args.faults.now a.result a.ensures,
