@@ -1,7 +1,7 @@
 // Flags: a named field that a condition of its declaration names becomes a Flag with its entries.
 #![tactic(auto)]
 
-ghost use Rattle.std.specs.Prelude.{◌≡◌, List, ℕ};
+ghost use Rattle.std.specs.Prelude.{◌≡◌, List, ℕ, length};
 ghost use Rattle.rules.specs.DesugarFlags.{loose_at, first_loose, desugared};
 ghost use Rattle.rules.specs.Replies.{answered, fitted, flagged};
 
@@ -34,10 +34,10 @@ fn find_loose(table: &[Record]) -> Option<usize>
 
 // The table with flags, if it is not too long for the reply or for the buffer.
 #[tactic(auto, unfolding(rules::specs::Replies::fitted))]
-fn fitted(counts: &EntryCounts, out: &mut [u8]) -> Reply
+fn fitted(counts: &EntryCounts, total: usize, out: &mut [u8]) -> Reply
+    requires { total ≡ length (desugared counts.now.table.records.now) }
     ensures { (f : List ℕ) → answered result out.new f ≡ fitted (desugared counts.now.table.records.now) out.old f }
 {
-    let total = counts.total;
     if MOST_RECORDS < total {
         return Reply::Overlisted;
     }
@@ -61,7 +61,8 @@ pub fn desugar_flags(table: Table, out: &mut [u8]) -> Reply
         }
         None => {
             let mut counts = [0u16; MOST_RECORDS];
-            fitted(&EntryCounts::new(table, &mut counts), out)
+            let (counts, total) = EntryCounts::count(table, &mut counts);
+            fitted(&counts, total, out)
         }
     }
 }

@@ -15,29 +15,23 @@ use marked::Marked;
 use rules::Record;
 use table::{REMAINDERS, Table};
 
-// A table, with how many entries each of its places gets and how many records it becomes.
+// A table, with how many entries each of its places gets.
 #[derive(Clone, Copy)]
 pub struct EntryCounts<'a> {
     pub table: Table<'a>,
     pub counts: &'a [u16],
-    pub total: usize,
     pub ghost counted: { Counted table.records.now counts.now (length table.records.now) } by { Prim.hlevel props },
-    pub ghost summed: { total ≡ length (desugared table.records.now) },
 }
 
 impl<'a> EntryCounts<'a> {
-    // Counts in the array that is lent.
-    pub fn new(table: Table<'a>, counts: &'a mut [u16]) -> Self
+    // Counts in the array that is lent. Beside the counts: how many records the table becomes.
+    pub fn count(table: Table<'a>, counts: &'a mut [u16]) -> (Self, usize)
         requires { 1600 ≤ length counts.old }
-        ensures { result.table.records ≡ table.entry.records }
+        ensures { (result.0.table.records ≡ table.entry.records) × (result.1 ≡ length (desugared table.entry.records.now)) }
     {
         let mut marks = [0u16; REMAINDERS];
         let total = total(table, &mut marks, counts);
-        EntryCounts {
-            table,
-            counts,
-            total,
-        }
+        (EntryCounts { table, counts }, total)
     }
 }
 
