@@ -62,7 +62,8 @@ impl<'a, 'b> Model for Marked<'a, 'b> {
 
     ghost view = { λ m. (m.table.records.now, m.place) };
 
-    ghost invariant = { λ m. (m.place ≤ length m.table.records.now) × (m.members ≡ members_start m.table.records.now m.place) × ConditionsStamped m.table.records.now m.marks.now m.members };
+    ghost invariant = { λ m. (m.place ≤ length m.table.records.now) × (m.members ≡ members_start m.table.records.now m.place)
+        × ConditionsStamped m.table.records.now m.marks.now m.members };
 }
 
 impl<'a, 'b> Marked<'a, 'b> {
