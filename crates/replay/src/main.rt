@@ -168,11 +168,12 @@ fn print_case<R: Print>(rt: &R, case: Case, input: &[u8], faults: &mut [u8], out
     requires { case.table ≤ length out.old }
 {
     match case.part {
-        Part::Layout => print_layout(rt, layout::check_layout(input)),
-        Part::Scope => print_scope(rt, input, faults),
-        Part::Order => print_order(rt, input, faults, out),
-        Part::Checks => print_checks(rt, input, faults),
-        Part::Whole => print_whole(rt, input, &mut out[..case.table], faults),
+        Some(Part::Layout) => print_layout(rt, layout::check_layout(input)),
+        Some(Part::Scope) => print_scope(rt, input, faults),
+        Some(Part::Order) => print_order(rt, input, faults, out),
+        Some(Part::Checks) => print_checks(rt, input, faults),
+        Some(Part::Whole) => print_whole(rt, input, &mut out[..case.table], faults),
+        None => replay_cases::print(rt, 0, b'?'),
     }
 }
 

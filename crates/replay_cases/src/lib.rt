@@ -16,20 +16,21 @@ use std::io::{Print, Read};
 // What a case is for, and its lengths.
 #[derive(Clone, Copy)]
 pub struct Case {
-    pub part: Part,
+    // None: the number of no part
+    pub part: Option<Part>,
     pub input: usize,
     pub table: usize,
     pub faults: usize,
 }
 
-// Reads the next case, whose input then stands at the start of the buffer; None at the end of the stored cases. A case that is cut short, too
-// long for the buffers or for no part ends the replay, so that the output differs.
+// Reads the next case, whose input then stands at the start of the buffer; None at the end of the stored cases. A case that is cut short or too
+// long for the buffers ends the replay, so that the output differs.
 pub fn next_case<R: Read>(reader: &mut R, input: &mut [u8]) -> Option<Case>
     ensures { IfSome result (CaseFits (length input.new)) }
 {
     let mut head = [0u8; 16];
     reader.read_exact(&mut head).ok()?;
-    let part = Part::try_from(numbers::number4(&head, 0)).ok()?;
+    let part = Part::try_from(numbers::number4(&head, 0)).ok();
     let size = numbers::number4(&head, 4) as usize;
     let table = numbers::number4(&head, 8) as usize;
     let faults = numbers::number4(&head, 12) as usize;
