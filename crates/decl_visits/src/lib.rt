@@ -121,7 +121,8 @@ fn walk(names: &Names, place: usize, progress: &mut VisitProgress, buffer: &mut 
     }
 }
 
-// Takes up what each declaration refers to, in table order; no other record does. The first listed places are then the order.
+// Takes up what each declaration refers to, in table order; no other record does. The first listed places are then the order. The bound is a
+// clause, as in `decl_order`: `Names` has none, for the passes that ask for none.
 pub fn visit_all(names: &Names, progress: &mut VisitProgress, buffer: &mut [u8])
     requires { (length names.now.table.now ≤ 1600) × (progress.old ≡ started) }
     ensures { StateHeld names.now.table.now buffer.old (visited names.now.table.now) progress.new buffer.new }

@@ -67,7 +67,7 @@ fn note_enum(
     enum_ranges::overlaps::note_overlaps(marked.table, places, kept, buffer)
 }
 
-// What stands at `decl`, if it is an enum.
+// What stands at `decl`, if it is an enum. The bound is a clause: `MarkedTags` has none, as `note_tag` asks for none.
 #[tactic(auto, unfolding(rules::specs::EnumDeclarations::pass4_at))]
 fn note_place(
     marked: &MarkedTags,

@@ -21,7 +21,7 @@ fn first_group_field(table: &[Record]) -> usize
 
 // Writes, at the place of each group field from `from` on, the place of the declaration that it names: one search for each.
 // The bound and the order are clauses here: `Names` can't hold them, as passes 1 and 6 take it for any table, and a struct of listed names would be
-// made and taken in this file alone. So is `TargetsKnown`: it holds up to a place, and only `measure` and the ghost field of `Groups` read it whole.
+// made and taken in this file alone. So is `TargetsKnown`: it holds up to a place, and only where sizes are measured is it read whole.
 fn fill_from(names: &Names, from: usize, targets: &mut [u16])
     requires table_len_bound { (length names.now.table.now ≤ 1600) × (from ≤ length names.now.table.now)
         × TargetsKnown names.now.table.now targets.old from }

@@ -37,7 +37,8 @@ impl Kept {
 
     // The starts for the sizes of the declaration at `decl`, up to the next one.
     fn set_starts(&self, table: Table, decl: usize, starts: &mut [u16])
-        requires { (1600 ≤ length starts.old) × (is_decl (at table.records.now decl).kind ≡ true) × KeptPlaces table.records.now self.now.last self.now.end (decl + 1) × SizeStarts table.records.now starts.old }
+        requires { (1600 ≤ length starts.old) × (is_decl (at table.records.now decl).kind ≡ true)
+            × KeptPlaces table.records.now self.now.last self.now.end (decl + 1) × SizeStarts table.records.now starts.old }
         ensures { SizeStarts table.entry.records.now starts.new }
     {
         for q in decl + 1..self.end {
@@ -51,7 +52,8 @@ impl Kept {
     // One place more.
     #[tactic(auto, unfolding(rules::specs::Table::at))]
     fn step(&mut self, table: Table, place: usize, starts: &mut [u16])
-        requires { (place < length table.records.now) × (1600 ≤ length starts.old) × KeptPlaces table.records.now self.old.last self.old.end (place + 1) × SizeStarts table.records.now starts.old }
+        requires { (place < length table.records.now) × (1600 ≤ length starts.old)
+            × KeptPlaces table.records.now self.old.last self.old.end (place + 1) × SizeStarts table.records.now starts.old }
         ensures { SizeStarts table.entry.records.now starts.new × KeptPlaces table.entry.records.now self.new.last self.new.end place }
     {
         let r = &table.records[place];
