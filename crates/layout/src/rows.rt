@@ -1,12 +1,11 @@
 // The table of records: the row of each kind, and whether a record keeps to its row.
-ghost use Rattle.std.specs.Prelude.{◌≡◌, ◌+◌, ◌*◌};
-ghost use Rattle.rules.specs.Layouts.{row_of, name_fits, number_fits, key_fits, array_fits, keeps};
-ghost use Rattle.layout.specs.Packed.{unpacked};
+ghost use Rattle.std.specs.Prelude.{◌≡◌};
+ghost use Rattle.rules.specs.Layouts.{row, row_of, name_fits, number_fits, key_fits, array_fits, keeps};
 
 use kinds::{is_decl, is_field};
 use rules::{Record, Row};
 
-// A name or number that a kind doesn't list, or lists; a name that is opt; a number under its mark. They stay numbers, as a row is packed into one.
+// A name or number that a kind doesn't list, or lists; a name that is opt; a number under its mark. They are numbers, as in the definitions' rows.
 const NONE: u8 = 0;
 
 const LISTED: u8 = 1;
@@ -15,66 +14,56 @@ const OPT: u8 = 2;
 
 const MARKED: u8 = 2;
 
-// A row as one number: a match of numbers is compiled to a table, one of rows to a jump.
-fn packed(kind: u8, marks: u8, name: u8, second: u8, third: u8, one: u8, two: u8) -> u32
-    ensures { result ≡ kind + 256 * (marks + 4 * (name + 4 * (second + 4 * (third + 4 * (one + 4 * two))))) }
+fn row(kind: u8, marks: u8, name: u8, second: u8, third: u8, one: u8, two: u8) -> Row
+    ensures { result ≡ row kind marks name second third one two }
 {
-    let numbers = u32::from(one) + 4 * u32::from(two);
-    let names = u32::from(name) + 4 * (u32::from(second) + 4 * (u32::from(third) + 4 * numbers));
-    u32::from(kind) + 256 * (u32::from(marks) + 4 * names)
-}
-
-// The row of a kind, packed, or one of kind 0.
-fn packed_row(kind: u8) -> u32
-    ensures { unpacked result ≡ row_of kind }
-{
-    match kind {
-        kinds::CHECKSUM => packed(kinds::CHECKSUM, 0, LISTED, NONE, NONE, LISTED, NONE),
-        kinds::CUSTOM_FIELD => packed(kinds::CUSTOM_FIELD, 1, LISTED, NONE, NONE, MARKED, NONE),
-        kinds::ENUM => packed(kinds::ENUM, 0, LISTED, NONE, NONE, LISTED, NONE),
-        kinds::PACKET => packed(kinds::PACKET, 0, LISTED, OPT, NONE, NONE, NONE),
-        kinds::STRUCT => packed(kinds::STRUCT, 0, LISTED, OPT, NONE, NONE, NONE),
-        kinds::GROUP => packed(kinds::GROUP, 0, LISTED, NONE, NONE, NONE, NONE),
-        kinds::TEST => packed(kinds::TEST, 0, NONE, LISTED, NONE, NONE, NONE),
-        kinds::CONSTRAINT => packed(kinds::CONSTRAINT, 1, LISTED, OPT, NONE, MARKED, NONE),
-        kinds::CONDITION => packed(kinds::CONDITION, 1, LISTED, OPT, NONE, MARKED, NONE),
-        kinds::FLAG_ENTRY => packed(kinds::FLAG_ENTRY, 0, LISTED, NONE, NONE, LISTED, NONE),
-        kinds::CHECKSUM_FIELD => packed(kinds::CHECKSUM_FIELD, 0, NONE, LISTED, NONE, NONE, NONE),
-        kinds::PADDING => packed(kinds::PADDING, 0, NONE, NONE, NONE, LISTED, NONE),
-        kinds::SIZE => packed(kinds::SIZE, 0, NONE, LISTED, NONE, LISTED, NONE),
-        kinds::COUNT => packed(kinds::COUNT, 0, NONE, LISTED, NONE, LISTED, NONE),
-        kinds::ELEMENT_SIZE => packed(kinds::ELEMENT_SIZE, 0, NONE, LISTED, NONE, LISTED, NONE),
-        kinds::BODY => packed(kinds::BODY, 0, NONE, NONE, NONE, NONE, NONE),
-        kinds::PAYLOAD => packed(kinds::PAYLOAD, 0, NONE, NONE, OPT, NONE, NONE),
-        kinds::FIXED_SCALAR => packed(kinds::FIXED_SCALAR, 0, NONE, NONE, NONE, LISTED, LISTED),
-        kinds::FIXED_ENUM => packed(kinds::FIXED_ENUM, 0, NONE, LISTED, LISTED, NONE, NONE),
-        kinds::RESERVED => packed(kinds::RESERVED, 0, NONE, NONE, NONE, LISTED, NONE),
-        kinds::ARRAY => packed(kinds::ARRAY, 3, LISTED, OPT, OPT, MARKED, MARKED),
-        kinds::SCALAR => packed(kinds::SCALAR, 0, LISTED, NONE, NONE, LISTED, NONE),
-        kinds::FLAG => packed(kinds::FLAG, 0, LISTED, NONE, NONE, NONE, NONE),
-        kinds::TYPEDEF => packed(kinds::TYPEDEF, 0, LISTED, LISTED, NONE, NONE, NONE),
-        kinds::GROUP_FIELD => packed(kinds::GROUP_FIELD, 0, NONE, LISTED, NONE, NONE, NONE),
-        kinds::TAG_VALUE => packed(kinds::TAG_VALUE, 0, LISTED, NONE, NONE, LISTED, NONE),
-        kinds::TAG_RANGE => packed(kinds::TAG_RANGE, 0, LISTED, NONE, NONE, LISTED, LISTED),
-        kinds::INNER_VALUE => packed(kinds::INNER_VALUE, 0, LISTED, NONE, NONE, LISTED, NONE),
-        kinds::DEFAULT_TAG => packed(kinds::DEFAULT_TAG, 0, LISTED, NONE, NONE, NONE, NONE),
-        _ => packed(0, 0, NONE, NONE, NONE, NONE, NONE),
+    Row {
+        kind,
+        marks,
+        name,
+        second,
+        third,
+        one,
+        two,
     }
 }
 
 // The row of a kind, or one of kind 0.
+#[tactic(auto, unfolding(rules::specs::Layouts::row_of, rules::specs::Layouts::row_among, rules::specs::Layouts::rows))]
 fn row_of(kind: u8) -> Row
     ensures { result ≡ row_of kind }
 {
-    let w = packed_row(kind);
-    Row {
-        kind: (w % 256) as u8,
-        marks: (w / 256 % 4) as u8,
-        name: (w / 1024 % 4) as u8,
-        second: (w / 4096 % 4) as u8,
-        third: (w / 16384 % 4) as u8,
-        one: (w / 65536 % 4) as u8,
-        two: (w / 262144 % 4) as u8,
+    match kind {
+        kinds::CHECKSUM => row(kind, 0, LISTED, NONE, NONE, LISTED, NONE),
+        kinds::CUSTOM_FIELD => row(kind, 1, LISTED, NONE, NONE, MARKED, NONE),
+        kinds::ENUM => row(kind, 0, LISTED, NONE, NONE, LISTED, NONE),
+        kinds::PACKET => row(kind, 0, LISTED, OPT, NONE, NONE, NONE),
+        kinds::STRUCT => row(kind, 0, LISTED, OPT, NONE, NONE, NONE),
+        kinds::GROUP => row(kind, 0, LISTED, NONE, NONE, NONE, NONE),
+        kinds::TEST => row(kind, 0, NONE, LISTED, NONE, NONE, NONE),
+        kinds::CONSTRAINT => row(kind, 1, LISTED, OPT, NONE, MARKED, NONE),
+        kinds::CONDITION => row(kind, 1, LISTED, OPT, NONE, MARKED, NONE),
+        kinds::FLAG_ENTRY => row(kind, 0, LISTED, NONE, NONE, LISTED, NONE),
+        kinds::CHECKSUM_FIELD => row(kind, 0, NONE, LISTED, NONE, NONE, NONE),
+        kinds::PADDING => row(kind, 0, NONE, NONE, NONE, LISTED, NONE),
+        kinds::SIZE => row(kind, 0, NONE, LISTED, NONE, LISTED, NONE),
+        kinds::COUNT => row(kind, 0, NONE, LISTED, NONE, LISTED, NONE),
+        kinds::ELEMENT_SIZE => row(kind, 0, NONE, LISTED, NONE, LISTED, NONE),
+        kinds::BODY => row(kind, 0, NONE, NONE, NONE, NONE, NONE),
+        kinds::PAYLOAD => row(kind, 0, NONE, NONE, OPT, NONE, NONE),
+        kinds::FIXED_SCALAR => row(kind, 0, NONE, NONE, NONE, LISTED, LISTED),
+        kinds::FIXED_ENUM => row(kind, 0, NONE, LISTED, LISTED, NONE, NONE),
+        kinds::RESERVED => row(kind, 0, NONE, NONE, NONE, LISTED, NONE),
+        kinds::ARRAY => row(kind, 3, LISTED, OPT, OPT, MARKED, MARKED),
+        kinds::SCALAR => row(kind, 0, LISTED, NONE, NONE, LISTED, NONE),
+        kinds::FLAG => row(kind, 0, LISTED, NONE, NONE, NONE, NONE),
+        kinds::TYPEDEF => row(kind, 0, LISTED, LISTED, NONE, NONE, NONE),
+        kinds::GROUP_FIELD => row(kind, 0, NONE, LISTED, NONE, NONE, NONE),
+        kinds::TAG_VALUE => row(kind, 0, LISTED, NONE, NONE, LISTED, NONE),
+        kinds::TAG_RANGE => row(kind, 0, LISTED, NONE, NONE, LISTED, LISTED),
+        kinds::INNER_VALUE => row(kind, 0, LISTED, NONE, NONE, LISTED, NONE),
+        kinds::DEFAULT_TAG => row(kind, 0, LISTED, NONE, NONE, NONE, NONE),
+        _ => row(0, 0, NONE, NONE, NONE, NONE, NONE),
     }
 }
 
