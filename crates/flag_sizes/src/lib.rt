@@ -1,17 +1,17 @@
 // Sizes with flags: how many entries each field gets from the conditions that name it, and how many records the table becomes.
 #![tactic(auto)]
 
+mod condition_marks;
 pub mod conditions;
 pub mod entries;
-mod marked;
 
 ghost use Rattle.std.specs.Prelude.{◌≡◌, ◌+◌, ◌-◌, ◌<◌, ◌≤◌, length};
 ghost use Rattle.rules.specs.DesugarFlags.{condition_at, entries_at, desugared_at, desugared};
 ghost use Rattle.flag_sizes.specs.Counts.{Counted, made_at};
 ghost use Rattle.std.proofs.Props.{props};
 
+use condition_marks::ConditionMarks;
 use entries::Standing;
-use marked::Marked;
 use rules::Record;
 use table::{REMAINDERS, Table};
 
@@ -75,12 +75,12 @@ fn total(table: Table, marks: &mut [u16], counts: &mut [u16]) -> usize
     ensures { (result ≡ length (desugared table.entry.records.now)) × Counted table.entry.records.now counts.new (length table.entry.records.now) }
 {
     let mut n = 0;
-    let mut marked = Marked::new(table, marks);
+    let mut walk = ConditionMarks::new(table, marks);
     for p in 0..table.records.len() {
-        let made = marked.count_made();
+        let made = walk.count_made();
         counts[p] = made as u16;
         n += size_at(table, p, made);
-        marked.step();
+        walk.step();
     }
     n
 }

@@ -28,8 +28,8 @@ fn flag_of(r: Record) -> Record
     }
 }
 
-// Writes `r` at place `count`. Buffer and count stay two parameters: of a struct that holds the lent buffer, nothing is known of the lender's
-// bytes at its end. That there is room stays a clause: each function asks it for other records, so no type can say it once.
+// Writes `r` at place `count`. Buffer and count are two parameters: with a struct that holds the lent buffer, each function would have one more
+// clause, that it still holds the same buffer. That there is room stays a clause: each function asks it for other records, so no type can say it once.
 #[tactic(auto, using(crate::proofs::Writing::puts))]
 fn append(out: &mut [u8], count: usize, r: Record) -> usize
     requires { RoomForRecords out.old count (r ∷ []) }

@@ -67,7 +67,7 @@ impl Kept {
 }
 
 // Fills `starts`, in which no start is known at first: all places of the table, from the last to the first. What is known of them stands in
-// clauses: of the slices that a struct holds by &mut nothing is known where the struct ends.
+// clauses: with a struct that holds them by &mut, each method would have one more, that it still holds the same slice.
 #[tactic(auto, using(crate::proofs::starts::Laws::kept_none))]
 pub fn fill(table: Table, starts: &mut [u16])
     requires { (1600 ≤ length starts.old) × SizeStarts table.records.now starts.old }

@@ -3,7 +3,7 @@ use Prim.Native.Nat.{ℕ, ◌%◌, ◌≤◌}
 use mathlib.Core.Path.{◌≡◌}
 use lib.ListN.{length, get_or}
 use Rattle.rules.specs.DesugarFlags.{entries_from}
-use Rattle.flag_sizes.proofs.marked.mark_conditions.Given as goal
+use Rattle.flag_sizes.proofs.condition_marks.mark_conditions.Given as goal
 
 abbrev pub invariant-loop-p : goal.invariant-loop-p
 invariant-loop-p l =

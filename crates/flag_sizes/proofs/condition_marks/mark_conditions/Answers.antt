@@ -2,7 +2,7 @@
 use native.Mathlib.Omega.{arith}
 use Rattle.std.proofs.lemmas.Grind.{common_steps}
 use Rattle.flag_sizes.proofs.Laws.{entries_steps}
-use Rattle.flag_sizes.proofs.marked.mark_conditions.Goals as goal
+use Rattle.flag_sizes.proofs.condition_marks.mark_conditions.Goals as goal
 
 pub loop-p-preserved : goal.loop-p-preserved
 loop-p-preserved c =

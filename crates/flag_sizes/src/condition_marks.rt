@@ -44,7 +44,7 @@ fn count_entries(table: &[Record], flag: u16, from: usize) -> usize
 // A place of a table, where the members of its declaration start, and the marks of the names that its conditions give. The marks are lent at a
 // lifetime of their own: at the table's the borrow checker does not cover that they are lent again.
 #[derive(Drop)]
-pub struct Marked<'a, 'b> {
+pub struct ConditionMarks<'a, 'b> {
     table: Table<'a>,
     place: usize,
     members: usize,
@@ -52,7 +52,7 @@ pub struct Marked<'a, 'b> {
 }
 
 // Contracts see the records and the place. An invariant, as a ghost field would not hold between the writes of a step.
-impl<'a, 'b> Model for Marked<'a, 'b> {
+impl<'a, 'b> Model for ConditionMarks<'a, 'b> {
     ghost use Rattle.std.specs.Prelude.{◌≡◌, ◌≤◌, ℕ, List, length};
     ghost use Rattle.rules.specs.declared.Record.{Record};
     ghost use Rattle.rules.specs.DesugarFlags.{members_start};
@@ -66,7 +66,7 @@ impl<'a, 'b> Model for Marked<'a, 'b> {
         × ConditionsStamped m.table.records.now m.marks.now m.members };
 }
 
-impl<'a, 'b> Marked<'a, 'b> {
+impl<'a, 'b> ConditionMarks<'a, 'b> {
     // At the first place.
     #[tactic(auto, using(crate::proofs::Laws::start_zero))]
     pub fn new(table: Table<'a>, marks: &'b mut [u16]) -> Self
@@ -74,7 +74,7 @@ impl<'a, 'b> Marked<'a, 'b> {
         ensures { result ≡ (table.entry.records.now, 0) }
     {
         mark_conditions(table.records, 0, marks);
-        Marked {
+        ConditionMarks {
             table,
             place: 0,
             members: 0,
