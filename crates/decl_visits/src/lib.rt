@@ -20,7 +20,7 @@ const VISITING: u8 = 1;
 const LISTED: u8 = 2;
 
 // A mark for each place, the places listed so far with their count, as there is no heap, and the faults found.
-#[derive(Drop)]
+#[derive(Clone, Copy)]
 pub struct VisitProgress {
     pub marks: [u8; MOST_RECORDS],
     pub places: [u16; MOST_RECORDS],
