@@ -15,14 +15,14 @@ use Rattle.faults.specs.Notes.{no_faults}
 use Rattle.faults.proofs.Laws.{noted-logged, total-after, logged_none}
 use Rattle.decl_visits.specs.declared.VisitProgress.{VisitProgress}
 use Rattle.std.specs.Prelude.{Ok, Err}
-use Rattle.decl_visits.specs.Contract.{StateHeld}
-use Rattle.decl_visits.proofs.Loop.{order-read, order-short}
+use Rattle.decl_visits.specs.Contract.{started, StateHeld}
+use Rattle.decl_visits.proofs.Loop.{places-started, order-read, order-short}
 use Rattle.decl_order.specs.Contract.{Placed, DeclIdentifiersChecked}
 use Rattle.decl_order.proofs.Promise.{listed-declared}
 use Rattle.decl_order.proofs.Room.{ordered-short}
 
 -- what the visits leave
-module _ (rs : List Record) {f₀ f : List ℕ} {a : VisitProgress} (h : StateHeld rs f₀ (visited rs) a f) where
+module _ (rs : List Record) {o : VisitProgress} {f₀ f : List ℕ} {a : VisitProgress} (h : StateHeld rs o f₀ (visited rs) a f) where
   faults-logged : log a.tally f ≡ logged f₀ (pass2 rs)
   unfolding pass2
   faults-logged = h.faults_are ∙ noted-logged f₀ (map (fault_of rs) (visited rs).faults)
@@ -45,15 +45,15 @@ module _ (rs : List Record) {f₀ f : List ℕ} {a : VisitProgress} (h : StateHe
     pub listed-short : a.listed ≤ 1600
     listed-short = omega (arith, order-short rs few, h.listed_is)
 
-    module _ {l : List ℕ} (e : l ≡ take a.listed a.places) where
+    module _ {l : List ℕ} (i : o ≡ started) (e : l ≡ take a.listed a.places) where
       is-order : l ≡ order rs
       unfolding order
-      is-order = e ∙ order-read rs f₀ a f few h
+      is-order = e ∙ order-read rs o f₀ a f (rw (i, places-started) few) few h
 
       pub call-copy : (out : List Record) → length rs ≤ length out → Placed rs l out
       unfolding ordered
       call-copy out w = record {
-        within = λ d i. (listed-declared rs accepts d (subst (λ (x : List ℕ). Memᴰ d x) is-order i)).0;
+        within = λ d m. (listed-declared rs accepts d (subst (λ (x : List ℕ). Memᴰ d x) is-order m)).0;
         fits = rw is-order (omega (arith, ordered-short rs accepts));
       }
 

@@ -32,66 +32,75 @@ abbrev rest_of : List Record → ℕ → State → State
 rest_of rs p s = walk (visit (suc (length rs)) (references rs)) (root_references rs p (length rs - p)) s
 
 -- the roots below p are taken up
-pub record Turn (rs : List Record) (f₀ : List ℕ) (a : VisitProgress) (f : List ℕ) (p : ℕ) : Type 0 where
+pub record Turn (rs : List Record) (o : VisitProgress) (f₀ : List ℕ) (a : VisitProgress) (f : List ℕ) (p : ℕ) : Type 0 where
   pub ready : VisitReady rs a f (length rs - p) 0
+  pub from : ready.origin ≡ o
   pub began : ready.buffer₀ ≡ f₀
   pub rest : rest_of rs p ready.state ≡ visited rs
 
-marks-started : (n : ℕ) → n ≤ 1600 → take n started.marks ≡ replicate n 0
+-- a new progress may be lent
+pub marks-started : (n : ℕ) → n ≤ 1600 → take n started.marks ≡ replicate n 0
 unfolding started
 marks-started n h = take-replicate n 1600 0 h
 
-counts-started : (started.listed ≡ 0) × (started.tally ≡ no_faults) × (length started.places ≡ 1600)
+pub places-started : length started.places ≡ 1600
 unfolding started
-counts-started = (refl, refl, length-replicate {A = ℕ} 1600 0)
+places-started = length-replicate {A = ℕ} 1600 0
 
-pub loop-start : (rs : List Record) (f : List ℕ) → length rs ≤ 1600 → Turn rs f started f 0
+-- nothing is listed and no fault found yet
+abbrev pub reset : VisitProgress → VisitProgress
+reset o = record { marks = o.marks; places = o.places; listed = 0; tally = no_faults }
+
+pub loop-start : (rs : List Record) (o : VisitProgress) (f : List ℕ) → length rs ≤ 1600 → take (length rs) o.marks ≡ replicate (length rs) 0 → Turn rs o f (reset o) f 0
 unfolding visited visit_all
-loop-start rs f few = record {
+loop-start rs o f few e = record {
   ready = record {
     state = unvisited (length rs);
+    origin = o;
     buffer₀ = f;
     held = record {
-      marks_are = marks-started (length rs) few;
+      marks_are = e;
       marks_rest = refl;
       places_are = refl;
-      listed_is = counts-started.0;
-      faults_are = rw counts-started.1 (noted-none (log no_faults f));
+      listed_is = refl;
+      faults_are = noted-none (log no_faults f);
     };
     few = few;
     size = length-replicate (length rs) 0;
     room = omega (arith, unvisited-all (length rs));
     spare = omega (arith, unvisited-all (length rs));
   };
+  from = refl;
   began = refl;
   rest = let z : length rs - 0 ≡ length rs = omega arith in rw z;
 }
 
-module _ (rs : List Record) {f₀ : List ℕ} {a : VisitProgress} {f : List ℕ} {p : ℕ} (h : Turn rs f₀ a f p) where
-  pub loop-end : length rs ≤ p → StateHeld rs f₀ (visited rs) a f
+module _ (rs : List Record) {o : VisitProgress} {f₀ : List ℕ} {a : VisitProgress} {f : List ℕ} {p : ℕ} (h : Turn rs o f₀ a f p) where
+  pub loop-end : length rs ≤ p → StateHeld rs o f₀ (visited rs) a f
   unfolding walk root_references
   loop-end l =
       let z : length rs - p ≡ 0 = omega arith in
-      rw (← h.began, ← (rw z at h.rest)) h.ready.held
+      rw (← h.from, ← h.began, ← (rw z at h.rest)) h.ready.held
 
   module _ (l : p < length rs) {r : Reference} (e : r ≡ root_reference rs p) where
     pub loop-call : Within (length rs) r × VisitReady rs a f 1 0
     loop-call = (rw e (within-root rs p l), relax rs h.ready (omega arith) (omega arith))
 
-    pub loop-turn : (a' : VisitProgress) (f' : List ℕ) → Visited rs r a f a' f' → Turn rs f₀ a' f' (p + 1)
+    pub loop-turn : (a' : VisitProgress) (f' : List ℕ) → Visited rs r a f a' f' → Turn rs o f₀ a' f' (p + 1)
     unfolding walk root_references relax after
     loop-turn a' f' v =
         let n : unvisited_in rs a < suc (length rs) = rw h.ready.held.marks_are (unvisited-few h.ready.state.marks h.ready.size) in
         let z : length rs - p ≡ suc (length rs - (p + 1)) = omega arith in
         record {
           ready = after rs (length rs - (p + 1)) (relax rs h.ready (omega arith) (omega arith)) (taken_up rs r) (visit-grows rs h.ready.few r) v (suc (length rs)) n;
+          from = h.from;
           began = h.began;
           rest = rw e (rw z at h.rest);
         }
 
   -- only a declaration refers to anything
-  pub loop-skip : p < length rs → is_decl (at rs p).kind ≡ false → Turn rs f₀ a f (p + 1)
-  loop-skip l e = loop-turn l (root-nowhere rs p e) a f (λ k g₀ s n i. i)
+  pub loop-skip : p < length rs → is_decl (at rs p).kind ≡ false → Turn rs o f₀ a f (p + 1)
+  loop-skip l e = loop-turn l (root-nowhere rs p e) a f (λ k _ g₀ s n i. i)
 
 -- no more places are listed than the table has
 pub order-short : (rs : List Record) → length rs ≤ 1600 → length (visited rs).order ≤ length rs
@@ -103,8 +112,8 @@ order-short rs few =
     omega arith
 
 -- the first places are the order
-pub order-read : (rs : List Record) (f₀ : List ℕ) (a : VisitProgress) (f : List ℕ) → length rs ≤ 1600 → StateHeld rs f₀ (visited rs) a f → take a.listed a.places ≡ (visited rs).order
-order-read rs f₀ a f few h =
+pub order-read : (rs : List Record) (o : VisitProgress) (f₀ : List ℕ) (a : VisitProgress) (f : List ℕ) → length rs ≤ length o.places → length rs ≤ 1600 → StateHeld rs o f₀ (visited rs) a f → take a.listed a.places ≡ (visited rs).order
+order-read rs o f₀ a f fits few h =
     let s = order-short rs few in
-    let l : 0 + length (visited rs).order ≤ length started.places = omega (arith, counts-started.2) in
-    rw (h.places_are, h.listed_is, sets-eq (visited rs).order started.places 0 l, take-append_seam)
+    let l : 0 + length (visited rs).order ≤ length o.places = omega arith in
+    rw (h.places_are, h.listed_is, sets-eq (visited rs).order o.places 0 l, take-append_seam)

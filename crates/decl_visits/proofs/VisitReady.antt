@@ -23,7 +23,7 @@ use Rattle.faults.specs.Notes.{no_faults}
 use Rattle.faults.proofs.Laws.{noted-then, noted_one, total-after}
 use Rattle.table.proofs.Laws.{first-in, same-default}
 use Rattle.decl_visits.specs.declared.VisitProgress.{VisitProgress}
-use Rattle.decl_visits.specs.Contract.{unvisited_count, unvisited_in, started, listing, Noted, StateHeld, VisitReady, Within, Steps, taken_up, walked, Visited, Walked}
+use Rattle.decl_visits.specs.Contract.{unvisited_count, unvisited_in, listing, Noted, StateHeld, VisitReady, Within, Steps, taken_up, walked, Visited, Walked}
 use Rattle.decl_visits.proofs.Growth.{Growth, unvisited-opened, resolve-growth, walk-growth, visit-growth, fields-one, fields-decl, fields-past, fields-length, references-length}
 
 -- ---- how each step of the code changes the state that is held
@@ -37,8 +37,8 @@ sets_more (x ∷ l) o i d = grind (arith, common_steps, sets_more l (set o i x) 
 abbrev pub opening : ℕ → VisitProgress → VisitProgress
 opening d a = record { marks = set a.marks d 1; places = a.places; listed = a.listed; tally = a.tally }
 
-module _ (rs : List Record) {f₀ : List ℕ} {s : State} {a : VisitProgress} {f : List ℕ} (h : StateHeld rs f₀ s a f) where
-  held-note : {c p : ℕ} {a' : VisitProgress} {f' : List ℕ} → Noted rs a f c p a' f' → StateHeld rs f₀ (faulted c p s) a' f'
+module _ (rs : List Record) {o : VisitProgress} {f₀ : List ℕ} {s : State} {a : VisitProgress} {f : List ℕ} (h : StateHeld rs o f₀ s a f) where
+  held-note : {c p : ℕ} {a' : VisitProgress} {f' : List ℕ} → Noted rs a f c p a' f' → StateHeld rs o f₀ (faulted c p s) a' f'
   held-note {c} {p} e =
       let n = noted-then (log no_faults f₀) (map (fault_of rs) s.faults) (single c (at rs p) ∷ []) h.faults_are (e.faults ∙ noted_one (log a.tally f) (single c (at rs p))) in
       grind (arith, common_steps, map-append (fault_of rs) s.faults (record { code = c; place = p } ∷ []), n)
@@ -47,11 +47,11 @@ module _ (rs : List Record) {f₀ : List ℕ} {s : State} {a : VisitProgress} {f
   held-total = total-after no_faults f₀ (map (fault_of rs) s.faults) h.faults_are ∙ zero-add _ ∙ length-map s.faults (fault_of rs)
 
   module _ {d : ℕ} (l : d < length rs) where
-    held-open : StateHeld rs f₀ (opened d s) (opening d a) f
+    held-open : StateHeld rs o f₀ (opened d s) (opening d a) f
     held-open = grind (arith, common_steps, take-set-lt (length rs) a.marks d 1, drop-set-lt (length rs) a.marks d 1)
 
-    held-list : StateHeld rs f₀ (listed d s) (listing d a) f
-    held-list = grind (arith, common_steps, take-set-lt (length rs) a.marks d 2, drop-set-lt (length rs) a.marks d 2, sets_more s.order started.places 0 d)
+    held-list : StateHeld rs o f₀ (listed d s) (listing d a) f
+    held-list = grind (arith, common_steps, take-set-lt (length rs) a.marks d 2, drop-set-lt (length rs) a.marks d 2, sets_more s.order o.places 0 d)
 
 -- ---- a declaration to visit stands in the table
 
@@ -105,6 +105,7 @@ module _ (rs : List Record) {a : VisitProgress} {f : List ℕ} where
   unfoldable pub relax : {x y x' y' : ℕ} → VisitReady rs a f x y → x' ≤ x → y' ≤ y → VisitReady rs a f x' y'
   relax h p q = record {
     state = h.state;
+    origin = h.origin;
     buffer₀ = h.buffer₀;
     held = h.held;
     few = h.few;
@@ -119,7 +120,7 @@ module _ (rs : List Record) {a : VisitProgress} {f : List ℕ} where
   -- after a step g, by which the faults grow by z at most
   module _ (x : ℕ) {y z : ℕ} (h : VisitReady rs a f (x + z) y) {a' : VisitProgress} {f' : List ℕ} (g : ℕ → State → State) (grows : (k : ℕ) (s : State) → Growth s (g k s) z) (v : Steps rs g a f a' f') (k : ℕ) (n : unvisited_in rs a < k) where
     pub falls : unvisited_in rs a' ≤ unvisited_in rs a
-    falls = rw (h.held.marks_are, (v k h.buffer₀ h.state n h.held).marks_are) (grows k h.state).falls
+    falls = rw (h.held.marks_are, (v k h.origin h.buffer₀ h.state n h.held).marks_are) (grows k h.state).falls
 
     unfoldable pub after : VisitReady rs a' f' x y
     after =
@@ -130,8 +131,9 @@ module _ (rs : List Record) {a : VisitProgress} {f : List ℕ} where
         let bs = b.spare in
         record {
           state = g k h.state;
+          origin = h.origin;
           buffer₀ = h.buffer₀;
-          held = v k h.buffer₀ h.state n h.held;
+          held = v k h.origin h.buffer₀ h.state n h.held;
           few = h.few;
           size = b.size ∙ h.size;
           room = omega arith;
@@ -145,22 +147,22 @@ module _ (rs : List Record) {a : VisitProgress} {f : List ℕ} where
   ret-follow e v = rw e v
 
   pub ret-wrong : {r : Reference} {c p : ℕ} {a' : VisitProgress} {f' : List ℕ} → r ≡ Wrong c p → Noted rs a f c p a' f' → Visited rs r a f a' f'
-  ret-wrong e n = rw e (λ k f₀ s _ h. held-note rs h n)
+  ret-wrong e n = rw e (λ k _ f₀ s _ h. held-note rs h n)
 
   module _ {d : ℕ} (l : d < length rs) (h : VisitReady rs a f 1 0) where
     -- the mark that is read
-    mark-held : {f₀ : List ℕ} {s : State} → StateHeld rs f₀ s a f → get_or a.marks d 0 ≡ mark_of s d
+    mark-held : {o : VisitProgress} {f₀ : List ℕ} {s : State} → StateHeld rs o f₀ s a f → get_or a.marks d 0 ≡ mark_of s d
     mark-held e = grind (arith, common_steps, h.held.marks_are, h.size, e.marks_are, same-default (take (length rs) a.marks) d 0 2)
 
     pub ret-open : {a' : VisitProgress} {f' : List ℕ} → get_or a.marks d 0 ≡ 1 → Noted rs a f 2 d a' f' → Visited rs (Follow d) a f a' f'
     unfolding visit enter
-    ret-open e n zero f₀ s u i = absurd (omega arith)
-    ret-open e n (suc k) f₀ s u i = grind (arith, common_steps, held-note rs i n, mark-held i)
+    ret-open e n zero _ f₀ s u i = absurd (omega arith)
+    ret-open e n (suc k) _ f₀ s u i = grind (arith, common_steps, held-note rs i n, mark-held i)
 
     pub ret-listed : ¬ (get_or a.marks d 0 ≡ 0) → ¬ (get_or a.marks d 0 ≡ 1) → Visited rs (Follow d) a f a f
     unfolding visit enter
-    ret-listed e n zero f₀ s u i = absurd (omega arith)
-    ret-listed e n (suc k) f₀ s u i = grind (arith, common_steps, mark-held i)
+    ret-listed e n zero _ f₀ s u i = absurd (omega arith)
+    ret-listed e n (suc k) _ f₀ s u i = grind (arith, common_steps, mark-held i)
 
     module _ (e : get_or a.marks d 0 ≡ 0) where
       one-less : unvisited_count h.state.marks ≡ suc (unvisited_count (set h.state.marks d 1))
@@ -176,6 +178,7 @@ module _ (rs : List Record) {a : VisitProgress} {f : List ℕ} where
           let s = h.spare in
           record {
             state = opened d h.state;
+            origin = h.origin;
             buffer₀ = h.buffer₀;
             held = held-open rs h.held l;
             few = h.few;
@@ -215,11 +218,11 @@ module _ (rs : List Record) {a : VisitProgress} {f : List ℕ} where
 
             pub ret-new : {a' : VisitProgress} → a' ≡ listing d c → Visited rs (Follow d) a f a' o
             unfolding visit enter references
-            ret-new p zero f₀ s u i = absurd (omega arith)
-            ret-new p (suc k) f₀ s u i =
+            ret-new p zero _ f₀ s u i = absurd (omega arith)
+            ret-new p (suc k) o₀ f₀ s u i =
                 let n = fewer in
                 let m = walked-falls in
-                let z = held-list rs (v k f₀ (walked rs (d + 1) k (opened d s)) (omega arith) (w k f₀ (opened d s) (omega arith) (held-open rs i l))) l in
+                let z = held-list rs (v k o₀ f₀ (walked rs (d + 1) k (opened d s)) (omega arith) (w k o₀ f₀ (opened d s) (omega arith) (held-open rs i l))) l in
                 grind (arith, common_steps, z, mark-held i, walk-last (visit k (references rs)) (field_references rs (d + 1) (length rs - (d + 1))) (own_reference rs d) (opened d s))
 
 -- ---- the loop over the fields
@@ -237,7 +240,7 @@ module _ (rs : List Record) {p q : ℕ} {a₀ : VisitProgress} {f₀ : List ℕ}
   -- no field is left
   none-left : field_references rs q (length rs - q) ≡ [] → Walked rs p a₀ f₀ a f
   unfolding walk
-  none-left e = i.rest a f (λ k g₀ s n h. rw e h)
+  none-left e = i.rest a f (λ k _ g₀ s n h. rw e h)
 
   pub walk-decl : is_decl (at rs q).kind ≡ true → Walked rs p a₀ f₀ a f
   walk-decl e = none-left (fields-decl rs q (length rs - q) e)
@@ -251,7 +254,7 @@ module _ (rs : List Record) {p q : ℕ} {a₀ : VisitProgress} {f₀ : List ℕ}
     walk-skip r = record {
       ready = relax rs i.ready (omega arith) (omega arith);
       fewer = i.fewer;
-      rest = λ a' f' w. i.rest a' f' (λ k g₀ s n h. rw (fields-one rs q l e, nowhere rs q r) (w k g₀ s n h));
+      rest = λ a' f' w. i.rest a' f' (λ k o g₀ s n h. rw (fields-one rs q l e, nowhere rs q r) (w k o g₀ s n h));
     }
 
     module _ {r : Reference} (re : r ≡ field_reference rs q) where
@@ -267,5 +270,5 @@ module _ (rs : List Record) {p q : ℕ} {a₀ : VisitProgress} {f₀ : List ℕ}
           record {
             ready = after rs (length rs - (q + 1)) h (taken_up rs r) (visit-grows rs i.ready.few r) v (suc (unvisited_in rs a)) (omega arith);
             fewer = omega arith;
-            rest = λ a₂ f₂ w. i.rest a₂ f₂ (λ k g₀ s u j. rw (fields-one rs q l e, ← re) (w k g₀ (taken_up rs r k s) (omega arith) (v k g₀ s u j)));
+            rest = λ a₂ f₂ w. i.rest a₂ f₂ (λ k o g₀ s u j. rw (fields-one rs q l e, ← re) (w k o g₀ (taken_up rs r k s) (omega arith) (v k o g₀ s u j)));
           }

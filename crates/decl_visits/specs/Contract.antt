@@ -34,19 +34,20 @@ pub record Noted (rs : List Record) (a : VisitProgress) (buffer : List ℕ) (c p
   pub listed : a'.listed ≡ a.listed
   pub faults : log a'.tally buffer' ≡ noted (log a.tally buffer) (single c (at rs p))
 
--- the progress and the fault buffer hold the state s; the buffer was f₀
-pub record StateHeld (rs : List Record) (f₀ : List ℕ) (s : State) (a : VisitProgress) (buffer : List ℕ) : Type 0 where
+-- the progress and the fault buffer hold the state s; before the visits they were o and f₀
+pub record StateHeld (rs : List Record) (o : VisitProgress) (f₀ : List ℕ) (s : State) (a : VisitProgress) (buffer : List ℕ) : Type 0 where
   pub marks_are : take (length rs) a.marks ≡ s.marks
-  pub marks_rest : drop (length rs) a.marks ≡ drop (length rs) started.marks
-  pub places_are : a.places ≡ sets started.places 0 s.order
+  pub marks_rest : drop (length rs) a.marks ≡ drop (length rs) o.marks
+  pub places_are : a.places ≡ sets o.places 0 s.order
   pub listed_is : a.listed ≡ length s.order
   pub faults_are : log a.tally buffer ≡ noted_all (log no_faults f₀) (map (fault_of rs) s.faults)
 
 -- they hold some state, with room for x more faults and y more places than the unvisited ones bring
 pub record VisitReady (rs : List Record) (a : VisitProgress) (buffer : List ℕ) (x y : ℕ) : Type 0 where
   pub state : State
+  pub origin : VisitProgress
   pub buffer₀ : List ℕ
-  pub held : StateHeld rs buffer₀ state a buffer
+  pub held : StateHeld rs origin buffer₀ state a buffer
   pub few : length rs ≤ 1600
   pub size : length state.marks ≡ length rs
   pub room : length state.order + unvisited_count state.marks + y ≤ 1600
@@ -61,7 +62,7 @@ Within n (Follow d) = d < n
 -- whatever state they held, they now hold what the step g makes of it, where visits may go k declarations deep
 abbrev pub Steps : List Record → (ℕ → State → State) → VisitProgress → List ℕ → VisitProgress → List ℕ → Type 0
 Steps rs g a buffer a' buffer' =
-    (k : ℕ) (f₀ : List ℕ) (s : State) → unvisited_in rs a < k → StateHeld rs f₀ s a buffer → StateHeld rs f₀ (g k s) a' buffer'
+    (k : ℕ) (o : VisitProgress) (f₀ : List ℕ) (s : State) → unvisited_in rs a < k → StateHeld rs o f₀ s a buffer → StateHeld rs o f₀ (g k s) a' buffer'
 
 -- the reference r is taken up, and the references of the fields from p on
 abbrev pub taken_up : List Record → Reference → ℕ → State → State

@@ -2,7 +2,7 @@
 // all that it follows.
 #![tactic(auto)]
 
-ghost use Rattle.std.specs.Prelude.{◌≡◌, ◌+◌, ◌-◌, ◌^◌, ◌≤◌, ◌<◌, length, take};
+ghost use Rattle.std.specs.Prelude.{◌≡◌, ◌+◌, ◌-◌, ◌^◌, ◌≤◌, ◌<◌, length, take, replicate};
 ghost use Rattle.rules.specs.DeclIdentifiers.{visited};
 ghost use Rattle.decl_visits.specs.Contract.{started, listing, Noted, StateHeld, VisitReady, Within, Visited, Walked};
 
@@ -121,12 +121,15 @@ fn walk(names: &Names, place: usize, progress: &mut VisitProgress, buffer: &mut 
     }
 }
 
-// Takes up what each declaration refers to, in table order; no other record does. The first listed places are then the order. The bound is a
-// clause, as in `decl_order`: `Names` has none, for the passes that ask for none.
+// Takes up what each declaration refers to, in table order; no other record does. The count and the tally begin anew, the first listed places are
+// then the order, and the other places and the marks behind the table stay. The bound is a clause, as in `decl_order`: `Names` has none, for the
+// passes that ask for none.
 pub fn visit_all(names: &Names, progress: &mut VisitProgress, buffer: &mut [u8])
-    requires { (length names.now.table.now ≤ 1600) × (progress.old ≡ started) }
-    ensures { StateHeld names.now.table.now buffer.old (visited names.now.table.now) progress.new buffer.new }
+    requires { (length names.now.table.now ≤ 1600) × (take (length names.now.table.now) progress.old.marks ≡ replicate (length names.now.table.now) 0) }
+    ensures { StateHeld names.now.table.now progress.old buffer.old (visited names.now.table.now) progress.new buffer.new }
 {
+    progress.listed = 0;
+    progress.tally = Tally { kept: 0, total: 0 };
     for p in 0..names.table.len() {
         if !kinds::is_decl(names.table[p].kind) {
             continue;

@@ -5,7 +5,7 @@ use Rattle.rules.specs.Table.{at}
 use Rattle.decl_visits.proofs.visit_all.Goals as goal
 
 pub loop-p-init : goal.loop-p-init
-loop-p-init c = rw c.requires.1 (loop-start _ _ c.requires.0)
+loop-p-init c = loop-start _ c.args.progress.now _ c.requires.0 c.requires.1
 
 pub loop-p-preserved-then-not-is_decl : goal.loop-p-preserved-then-not-is_decl
 unfolding at

@@ -3,4 +3,4 @@ use Rattle.decl_visits.proofs.Loop.{Turn}
 use Rattle.decl_visits.proofs.visit_all.Given as goal
 
 abbrev pub invariant-loop-p : goal.invariant-loop-p
-invariant-loop-p l = Turn l.names.table.now l.initial.buffer l.progress l.buffer l.p
+invariant-loop-p l = Turn l.names.table.now l.fn.progress l.initial.buffer l.progress l.buffer l.p
