@@ -51,13 +51,7 @@ impl<'a> Groups<'a> {
     pub fn total(&self) -> usize
         ensures { result ≡ total_size self.now.sizes.now self.now.table.records.now (length self.now.table.records.now) }
     {
-        let mut s: usize = 0;
-        for (d, r) in self.table.records.iter().enumerate() {
-            if is_kept(r.kind) {
-                s += 1 + usize::from(self.sizes[d]);
-            }
-        }
-        s
+        total(self.table, self.sizes)
     }
 }
 
@@ -101,4 +95,18 @@ pub fn measure(listed: Listed, targets: &[u16], sizes: &mut [u16])
             sizes[d] = s.min(TOO_MANY) as u16;
         }
     }
+}
+
+// How many records the inlined table has by the sizes passed, if that is at most 1,600.
+pub fn total(table: Table, sizes: &[u16]) -> usize
+    requires { length table.records.now ≤ length sizes.now }
+    ensures { result ≡ total_size sizes.now table.entry.records.now (length table.entry.records.now) }
+{
+    let mut s: usize = 0;
+    for (d, r) in table.records.iter().enumerate() {
+        if is_kept(r.kind) {
+            s += 1 + usize::from(sizes[d]);
+        }
+    }
+    s
 }

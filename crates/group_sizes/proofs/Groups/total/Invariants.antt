@@ -1,7 +1,0 @@
--- `group_sizes::Groups::total` meets its contract: the sum of the sizes below d. Assumes nothing.
-use Rattle.std.proofs.Common.{◌≡◌, ◌*◌, ◌≤◌}
-use Rattle.group_sizes.specs.Sizes.{total_size}
-use Rattle.group_sizes.proofs.Groups.total.Given as goal
-
-abbrev pub invariant-loop-d : goal.invariant-loop-d
-invariant-loop-d l = (l.s ≡ total_size l.self.sizes.now l.self.table.records.now l.d) × (l.s ≤ 65536 * l.d)
