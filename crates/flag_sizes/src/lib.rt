@@ -70,7 +70,7 @@ fn size_at(table: Table, place: usize, made: usize) -> usize
 
 // How many records the whole table becomes. The numbers of entries are kept by place, so that writing need not count again.
 #[tactic(auto, using(crate::proofs::Laws::total_laws))]
-fn total(table: Table, marks: &mut [u16], counts: &mut [u16]) -> usize
+pub fn total(table: Table, marks: &mut [u16], counts: &mut [u16]) -> usize
     requires { (4093 ≤ length marks.old) × (1600 ≤ length counts.old) }
     ensures { (result ≡ length (desugared table.entry.records.now)) × Counted table.entry.records.now counts.new (length table.entry.records.now) }
 {

@@ -8,7 +8,7 @@ use search::members::has_member;
 use table::DIVISOR;
 
 // Marks the parents' names of the declarations that have a field, so that other declarations need no search for a child.
-fn mark_parents(table: &[Record], parents: &mut [bool])
+pub fn mark_parents(table: &[Record], parents: &mut [bool])
     requires { length parents.old ≡ 4093 }
     ensures { Parents table.now parents.new }
 {
