@@ -3,7 +3,7 @@
 
 mod input;
 
-ghost use Rattle.std.specs.Prelude.{◌≤◌, length};
+ghost use Rattle.std.specs.Prelude.{◌≡◌, ◌≤◌, length};
 ghost use Rattle.rules.specs.Replies.{answer};
 ghost use Rattle.rules.specs.Printed.{printed, program};
 ghost use Rattle.printed_text.specs.TextAppended.{TextBegins};
@@ -14,6 +14,13 @@ use std::io::{Eprint, Error, Input, Print};
 
 // Room for what one read may bring.
 const CHUNK_LENGTH: usize = 65_536;
+
+// Its length is a clause: into a chunk of none nothing is read.
+fn chunk_buffer() -> [u8; CHUNK_LENGTH]
+    ensures { 65536 ≡ length result }
+{
+    [0; CHUNK_LENGTH]
+}
 
 // Room for all that the program can print.
 const TEXT_LENGTH: usize = 340_000;
@@ -58,7 +65,7 @@ fn print<R: Print + Eprint>(rt: &R, input: &[u8]) {
 // A read that fails is said on standard error, and nothing is answered.
 pub fn run<R: Input + Print + Eprint>(rt: &R) {
     let mut input = [0u8; INPUT_LENGTH];
-    let mut chunk = [0u8; CHUNK_LENGTH];
+    let mut chunk = chunk_buffer();
     let mut reader = rt.reader();
     match input::read_all(&mut reader, &mut input, &mut chunk) {
         Ok(n) => print(rt, &input[..n]),
