@@ -5,7 +5,7 @@ use mathlib.Core.Path.{◌≡◌, refl, sym, ap, ◌∙◌}
 use mathlib.Core.List.{List}
 use native.Mathlib.Omega.{arith}
 use native.Mathlib.Decide.{dec_lt}
-use lib.ListN.{length, take}
+use lib.ListN.{length, take, length-take}
 use Rattle.std.specs.Option.{unwrap_or}
 use Rattle.rules.specs.InlineGroups.{inlined}
 use Rattle.rules.specs.Replies.{answered, flagged, by_size}
@@ -37,16 +37,20 @@ module _ (rs : List Record) (m : ℕ) {x : Result ℕ InlineError} (e : x ≡ in
   unfolding Wrote
   told-unfit k h f = reply-unfit m (inlined rs) t f k (sym e ∙ h)
 
+pub few-taken : (l : List Record) (m : ℕ) → m ≤ 1600 → length (take m l) ≤ 1600
+few-taken l m h = omega (arith, length-take m l)
+
 -- what inlining wrote
 module _ (rs : List Record) {x : Result ℕ InlineError} (b : List Record) (e : x ≡ inlining (length b) (inlined rs))
     {b' : List Record} (w : b' ≡ inlining_records b (inlined rs)) (n : ℕ) (h : x ≡ Ok n) where
   pub inlined-few : (n ≤ 1600) × (n ≡ length (inlined rs)) × (n ≤ length b)
   inlined-few = few-records (length b) (inlined rs) n (sym e ∙ h)
 
-  pub told-inlined : (o : List ℕ) (r : Reply) {o' : List ℕ}
-      → ((f : List ℕ) → answered r o' f ≡ flagged (take n b') o f) → Wrote (length b) rs o o' (Some r)
+  -- of as many records as were written, however their number is told
+  pub told-inlined : (o : List ℕ) (r : Reply) {o' : List ℕ} {m : ℕ} → m ≡ n
+      → ((f : List ℕ) → answered r o' f ≡ flagged (take m b') o f) → Wrote (length b) rs o o' (Some r)
   unfolding Wrote
-  told-inlined o r d f = (rw (w, written-records b (inlined rs) n (sym e ∙ h)) at (d f)) ∙ reply-inlined (length b) (inlined rs) o f n (sym e ∙ h)
+  told-inlined o r q d f = (rw (q, w, written-records b (inlined rs) n (sym e ∙ h)) at (d f)) ∙ reply-inlined (length b) (inlined rs) o f n (sym e ∙ h)
 
 -- the table, written with room for m records
 module _ (m : ℕ) (rs : List Record) (t t' : List ℕ) (x : Option Reply) (w : Wrote m rs t t' x) where

@@ -6,7 +6,7 @@ use lib.ListN.{length}
 use lib.Seq.{length-take-le}
 use Rattle.std.specs.Prelude.{◌≡◌}
 use Rattle.rules.specs.InlineGroups.{inlined}
-use Rattle.accepted_table.proofs.Laws.{told-swollen, told-short, told-unfit, inlined-few, told-inlined}
+use Rattle.accepted_table.proofs.Laws.{told-swollen, told-short, told-unfit, inlined-few, few-taken, told-inlined}
 use Rattle.accepted_table.proofs.write_table.Goals as goal
 use Rattle.accepted_table.proofs.write_table.Goals.{In-Ok}
 
@@ -28,7 +28,7 @@ slice_bounds-records-end-in-Ok c =
 pub invariant_of-desugar_flags : goal.invariant_of-desugar_flags
 invariant_of-desugar_flags c =
     let few = fits-few (goal.at.invariant_of-desugar_flags c).In-Ok in
-    record { few = omega (arith, few.0, length-take-le c.in-Ok.n c.inline_groups.new.out (omega (arith, few.2, c.inline_groups.auto.out))) }
+    record { few = few-taken _ _ (omega (arith, few.0)) }
 
 pub returns-in-Err-Swollen : goal.returns-in-Err-Swollen
 returns-in-Err-Swollen c = told-swollen _ _ c.inline_groups.ensures.value.0 _ (rw c.in-Err-Swollen.field-0-is at c.in-Err-Swollen.is)
@@ -42,4 +42,4 @@ returns-in-Err-Unfit c = told-unfit _ _ c.inline_groups.ensures.value.0 _ _ (rw 
 pub returns-in-Ok : goal.returns-in-Ok
 returns-in-Ok c =
     told-inlined c.args.listed.table.records.now c.args.expanded.now c.inline_groups.ensures.value.0 c.inline_groups.ensures.value.1 _ c.in-Ok.is
-    c.args.table.now _ c.desugar_flags.ensures
+    c.args.table.now _ (omega arith) c.desugar_flags.ensures
