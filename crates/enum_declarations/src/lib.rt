@@ -8,6 +8,7 @@ ghost use Rattle.rules.specs.Faults.{log, logged};
 ghost use Rattle.rules.specs.EnumDeclarations.{tags_faults, enum_faults, pass4_at, pass4};
 ghost use Rattle.faults.specs.Notes.{noted_all};
 
+use enum_bounds::RangeBounds;
 use enum_tags::{EnumTags, MarkedTags, TagPlace};
 use repeats::marks::{Compared, marks_of};
 use rules::limits::MOST_RECORDS;
@@ -48,7 +49,7 @@ fn note_enum(
     requires { (decl + 1 + count ≤ 1600) × (tally.total + 4000000 < 2 ^ 64) }
     ensures { log result buffer.new ≡ noted_all (log tally buffer.old) (enum_faults marked.now.table.now decl count) }
 {
-    let (places, bounds) = enum_ranges::arrange(
+    let ranges = enum_ranges::arrange(
         marked.table,
         decl,
         count,
@@ -56,6 +57,10 @@ fn note_enum(
         &mut room.lows,
         &mut room.highs,
     );
+    let bounds = RangeBounds {
+        lows: &room.lows[..ranges],
+        highs: &room.highs[..ranges],
+    };
     let marked = *marked;
     let tags = EnumTags {
         marked,
@@ -64,7 +69,7 @@ fn note_enum(
         bounds,
     };
     let kept = note_tags(&tags, tally, buffer);
-    enum_ranges::overlaps::note_overlaps(marked.table, places, kept, buffer)
+    enum_ranges::overlaps::note_overlaps(marked.table, &room.places[..ranges], kept, buffer)
 }
 
 // What stands at `decl`, if it is an enum. The bound is a clause: `MarkedTags` has none, as `note_tag` asks for none.

@@ -15,4 +15,4 @@ note_overlaps-requires c =
 pub returns : goal.returns
 unfolding enum_faults
 returns c =
-    rw (← c.arrange.ensures.1) (noted-then _ _ _ c.note_tags-kept.ensures c.note_overlaps.ensures)
+    rw (← c.arrange-ranges.ensures.4) (noted-then _ _ _ c.note_tags-kept.ensures c.note_overlaps.ensures)
