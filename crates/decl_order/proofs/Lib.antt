@@ -8,3 +8,5 @@ pub mod Room
 pub mod Checks
 pub mod Stretches
 pub mod Names
+pub mod BytesCopies
+pub mod BytesChecks

@@ -12,15 +12,8 @@ use Rattle.rules.specs.Table.{record_at, records, decode}
 use Rattle.rules.specs.Places.{member_count}
 use Rattle.rules.specs.DeclIdentifiers.{decl_records, all_records}
 use Rattle.records.proofs.Laws.{length-decode}
+use Rattle.decl_order.specs.Bytes.{decl_bytes, all_bytes}
 use Rattle.decl_order.proofs.Copies.{count_fits}
-
--- the bytes of the declarations at these places, in this order, unchanged
-unfoldable pub decl_bytes : List ℕ → ℕ → List ℕ
-decl_bytes t d = take (40 * (1 + member_count (decode t) d)) (drop (40 * d) t)
-
-unfoldable pub all_bytes : List ℕ → List ℕ → List ℕ
-all_bytes t [] = []
-all_bytes t (d ∷ ds) = decl_bytes t d ++ all_bytes t ds
 
 number_at-append : (xs ys : List ℕ) (w i : ℕ) → i + w ≤ length xs → number_at (xs ++ ys) i w ≡ number_at xs i w
 unfolding number_at
@@ -56,10 +49,10 @@ module _ (t : List ℕ) (d : ℕ) (h : 40 * d ≤ length t) where
   decode-drop = sym (ap (drop d) decode-split ∙ drop_at (decode (take (40 * d) t)) (decode (drop (40 * d) t)) d decoded)
 
 module _ (t : List ℕ) (d : ℕ) (l : d < length (decode t)) where
-  place_in : 40 * (d + (1 + member_count (decode t) d)) ≤ length t
+  pub place_in : 40 * (d + (1 + member_count (decode t) d)) ≤ length t
   place_in = omega (arith, count_fits (decode t) d l, length-decode t)
 
-  bytes-length : length (decl_bytes t d) ≡ 40 * (1 + member_count (decode t) d)
+  pub bytes-length : length (decl_bytes t d) ≡ 40 * (1 + member_count (decode t) d)
   unfolding decl_bytes
   bytes-length = length-take-le (40 * (1 + member_count (decode t) d)) (drop (40 * d) t) (omega (arith, place_in, length-drop (40 * d) t))
 

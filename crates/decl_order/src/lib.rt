@@ -1,6 +1,8 @@
 // Pass 2: the visits, and, if they find no fault, the copy of the declarations in listed order.
 #![tactic(auto)]
 
+pub mod bytes;
+
 ghost use Rattle.std.specs.Prelude.{◌≡◌, ◌++◌, ◌≤◌, length, drop};
 ghost use Rattle.rules.specs.DeclIdentifiers.{all_records};
 ghost use Rattle.decl_order.specs.Contract.{Placed, DeclIdentifiersChecked};
