@@ -1,7 +1,7 @@
 // Replays stored tables through parts of the analyzer: a line for each case says what the part answered.
 #![tactic(auto)]
 
-ghost use Rattle.std.specs.Prelude.{◌*◌, ◌≤◌, IfOk, IfSome, length};
+ghost use Rattle.std.specs.Prelude.{◌≤◌, IfOk, IfSome, length};
 
 use replay_cases::Case;
 use replay_cases::part::Part;
@@ -64,36 +64,75 @@ fn order(input: &[u8], faults: &mut [u8], listed: &mut [Record]) -> Option<Resul
     Some(decl_order::check_decl_identifiers(table, faults, listed))
 }
 
-// Writes records to the start of a buffer.
-fn write(out: &mut [u8], records: &[Record])
-    requires { 40 * length records.now ≤ length out.old }
-{
-    for (place, record) in records.iter().enumerate() {
-        store::put(out, place, *record);
+// A record that stands where pass 2 lists none.
+fn unlisted() -> Record {
+    Record {
+        kind: NO_KIND,
+        ..Record::default()
     }
 }
 
-// The faults, the number of listed records and the digest of a buffer that they are written to.
+// Whether all ten numbers of two records are the same.
+fn same(a: Record, b: Record) -> bool {
+    let names = (a.name == b.name) & (a.second == b.second) & (a.third == b.third);
+    let values = (a.one == b.one) & (a.two == b.two) & (a.key == b.key);
+    let places = (a.start == b.start) & (a.end == b.end);
+    (a.kind == b.kind) & (a.marks == b.marks) & names & values & places
+}
+
+// Whether these are the records at the start of the bytes.
+fn starts_with(bytes: &[u8], records: &[Record]) -> bool {
+    if records::count(bytes) < records.len() {
+        return false;
+    }
+    for (place, record) in records.iter().enumerate() {
+        if !same(*record, records::record(bytes, place)) {
+            return false;
+        }
+    }
+    true
+}
+
+// Whether pass 2 on records lists the first records of the bytes, and leaves all others of its buffer as they were.
+fn lists_same(bytes: &[u8], listed: &[Record], count: usize) -> bool
+    requires { count ≤ length listed.now }
+{
+    starts_with(bytes, &listed[..count]) && listed[count..].iter().all(|r| same(*r, unlisted()))
+}
+
+// How many records an answer of pass 2 lists, and its faults.
+fn count_and_tally(answer: Result<usize, Tally>) -> (usize, Tally)
+    requires { IfOk answer (λ n. n ≤ 1600) }
+    ensures { result.0 ≤ 1600 }
+{
+    match answer {
+        Ok(count) => (count, faults::no_faults()),
+        Err(tally) => (0, tally),
+    }
+}
+
+// The faults, the number of listed records and the digest of the buffer that their bytes are copied to. Where pass 2 on records answers
+// otherwise, the case ends, so that the output differs.
 fn print_order<R: Print>(rt: &R, input: &[u8], faults: &mut [u8], out: &mut [u8]) {
-    if out.len() < TABLE_LENGTH {
+    if (out.len() < TABLE_LENGTH) | (MOST_RECORDS < records::count(input)) {
         return;
     }
-    let unlisted = Record {
-        kind: NO_KIND,
-        ..Record::default()
-    };
-    let mut listed = [unlisted; MOST_RECORDS];
-    let (count, tally) = match order(input, faults, &mut listed) {
-        None => return,
-        Some(Ok(count)) => (count, faults::no_faults()),
-        Some(Err(tally)) => (0, tally),
-    };
-    // A record written too many ends the case, so that the output differs.
-    if listed[count..].iter().any(|r| r.kind != NO_KIND) {
+    let mut listed = [unlisted(); MOST_RECORDS];
+    let Some(answer) = order(input, faults, &mut listed) else {
         return;
-    }
+    };
+    let (listed_count, listed_tally) = count_and_tally(answer);
+    let noted = replay_cases::digest(faults);
+    replay_cases::fill(faults);
     replay_cases::fill(out);
-    write(out, &listed[..count]);
+    let answer = decl_order::bytes::check_decl_identifiers(input, faults, out);
+    let (count, tally) = count_and_tally(answer);
+    let counts = (listed_tally.kept == tally.kept)
+        & (listed_tally.total == tally.total)
+        & (listed_count == count);
+    if !counts || noted != replay_cases::digest(faults) || !lists_same(out, &listed, count) {
+        return;
+    }
     print_faults(rt, tally, faults, b' ');
     replay_cases::print(rt, count as u64, b' ');
     replay_cases::print(rt, replay_cases::digest(out), b'\n');
