@@ -3,10 +3,11 @@ use Prim.Native.Nat.{ℕ, zero, suc, ◌+◌, ◌-◌, ◌*◌, ◌/◌, ◌%◌
 use mathlib.Core.Path.{◌≡◌, refl}
 use native.Mathlib.Omega.{arith}
 use native.Mathlib.Nat.{mod-eq_of_lt, one-mul}
+use borrow.Author.Tests.{lt-ltb, le-ltb}
 use lib.Dec.{eqb-suc-zero}
 use lib.Pow.{pow_pos, pow-lt}
 use lib.Count.{count_leading_zeros, count_trailing_zeros, leading_le, trailing_le}
-use Rattle.rules.specs.Widths.{digits, bit_width}
+use Rattle.rules.specs.Widths.{digits, bit_width, scalar_max}
 
 -- the leading zeros and the digits of a number make k
 zeros-and-digits : (k n : ℕ) → count_leading_zeros k n + digits k n ≡ k
@@ -25,5 +26,18 @@ width-of-zeros n = omega (arith, zeros-and-digits 64 n)
 
 pub shifted : (w : ℕ) → w < 64 → ((1 * 2 ^ w) % 2 ^ 64 ≡ 2 ^ w) × (1 ≤ 2 ^ w)
 shifted w h = (rw (one-mul (2 ^ w)) (mod-eq_of_lt (pow-lt h)), pow_pos w)
+
+-- the greatest value of a width, below that of a machine number and from it on
+module _ (w : ℕ) where
+  pub shifted-pos : w < 64 → 1 ≤ (1 * 2 ^ w) % 2 ^ 64
+  shifted-pos h = rw ((shifted w h).0) ((shifted w h).1)
+
+  pub max-below : w < 64 → (1 * 2 ^ w) % 2 ^ 64 - 1 ≡ scalar_max w
+  unfolding scalar_max
+  max-below h = rw ((shifted w h).0, lt-ltb w 64 h)
+
+  pub max-from : 64 ≤ w → 2 ^ 64 - 1 ≡ scalar_max w
+  unfolding scalar_max
+  max-from h = rw (le-ltb w 64 h)
 
 pub ruleset zeros = (zeros-below, width-of-zeros)
