@@ -26,6 +26,11 @@ module _ (rs : List Record) (d : ℕ) where
   pub members-in : d < length rs → d + 1 + member_count rs d ≤ length rs
   members-in g = let z = members-end g (unwrap_or (first_from rs Decl (d + 1)) (length rs)) refl in omega arith
 
+  -- where no declaration follows, whatever d is
+  pub count-end : first (holds_at rs Decl) (d + 1) (length rs - (d + 1)) ≡ None → length rs - (d + 1) ≡ member_count rs d
+  unfolding member_count
+  count-end h = rw h
+
 -- behind the last record there is nothing
 pub none-past : (rs : List Record) (x : Target) (d : ℕ) → length rs ≤ d → false ≡ found_inside rs (first_from rs x (d + 1))
 unfolding first found_inside
