@@ -4,7 +4,7 @@ use mathlib.Core.Path.{◌≡◌, refl, ap, ◌∙◌}
 use mathlib.Core.List.{List}
 use native.Mathlib.Omega.{arith}
 use native.Mathlib.Nat.{not-suc-le-zero, le_of_suc-le-suc, add_assoc}
-use lib.ListN.{length, get_or, drop}
+use lib.ListN.{length, get_or, take, drop, length-take}
 use lib.Seq.{get_or-drop}
 use Rattle.rules.specs.Bytes.{number_at}
 use Rattle.rules.specs.Table.{record_at, records, decode, at, blank}
@@ -29,6 +29,10 @@ length-decode t = length-records (length t / 40) t
 -- the bytes of a place
 pub place-fits : (t : List ℕ) (p : ℕ) → p < length (decode t) → 40 * p + 40 ≤ length t
 place-fits t p h = omega (arith, length-decode t)
+
+-- the first k bytes of a buffer
+pub part-few : (b : List ℕ) {k m : ℕ} → k ≤ m → k ≤ 64000 → length (decode (take k b)) ≤ 1600
+part-few b {k} h g = omega (arith, length-decode (take k b), length-take k b)
 
 at_records : (n : ℕ) (t : List ℕ) (p : ℕ) → p < n → get_or (records n t) p blank ≡ record_at t (40 * p)
 unfolding records
