@@ -31,6 +31,15 @@ module _ (rs : List Record) (d : ℕ) where
   unfolding member_count
   count-end h = rw h
 
+  -- with the declaration's own record
+  pub count-to : (e : ℕ) → first_from rs Decl (d + 1) ≡ Some e → (d < e) × (e - d ≡ 1 + member_count rs d)
+  unfolding member_count
+  count-to e h = let z = first-in (holds_at rs Decl) (length rs) (d + 1) e h in let l = z.0 in (omega arith, rw h (omega arith))
+
+  pub count-rest : d < length rs → first_from rs Decl (d + 1) ≡ None → length rs - d ≡ 1 + member_count rs d
+  unfolding member_count
+  count-rest l h = rw h (omega arith)
+
 -- behind the last record there is nothing
 pub none-past : (rs : List Record) (x : Target) (d : ℕ) → length rs ≤ d → false ≡ found_inside rs (first_from rs x (d + 1))
 unfolding first found_inside
