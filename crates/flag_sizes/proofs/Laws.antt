@@ -5,11 +5,13 @@ use mathlib.Core.List.{List, [], ◌∷◌, ◌++◌}
 use native.Mathlib.Omega.{arith}
 use native.Mathlib.Numerals.{add-one}
 use lib.Dec.{eqb}
+use borrow.Author.Tests.{eq-eqb, ne_eqb}
 use lib.ListN.{length, length-append}
 use Rattle.std.specs.Prelude.{if◌then◌else◌}
 use Rattle.rules.specs.Kinds as kind
 use Rattle.rules.specs.Kinds.{is, is_decl, is_condition_or_entry}
 use Rattle.rules.specs.Table.{at}
+use Rattle.rules.specs.Choice.{when}
 use Rattle.rules.specs.Places.{each}
 use Rattle.rules.specs.DesugarFlags.{members_start, entry_of, is_condition_on, entries, entries_from, entries_of, flag_of, condition_at, entries_at, own_entries, with_entries, desugared_at, desugared}
 use Rattle.rules.specs.declared.Record.{Record}
@@ -69,6 +71,15 @@ few_own rs q = omega (arith, own-few rs (length rs - q) q)
 pub condition_few : (rs : List Record) (p : ℕ) → length (condition_at rs p) ≤ 1
 unfolding condition_at
 condition_few rs p = when-few _ _
+
+module _ (rs : List Record) (p : ℕ) where
+  pub condition-none : ¬ ((at rs p).kind ≡ 11) → condition_at rs p ≡ []
+  unfolding condition_at when
+  condition-none k = rw (condition_at, ne_eqb _ _ k)
+
+  pub condition-is : {r : Record} → r ≡ at rs p → r.kind ≡ 11 → condition_at rs p ≡ r ∷ []
+  unfolding condition_at when
+  condition-is e k = rw (condition_at, ← e, eq-eqb _ _ k)
 
 with-cases : (rs : List Record) (p : ℕ) (r : Record) (es : List Record)
     → with_entries rs p r es ≡ (if eqb (length es) 0 then r ∷ condition_at rs (p + 1) ++ own_entries rs p else flag_of r ∷ condition_at rs (p + 1) ++ es)

@@ -1,5 +1,5 @@
 -- The starts of pass 5's searches, a place at a time. Assumes nothing.
-use Rattle.std.proofs.Common.{ℕ, ◌≡◌, ◌+◌, ◌%◌, ◌<◌, ◌≤◌, ◌∙◌, arith, refl, ap, List, true, false, length, get_or, set, replicate, mod-lt, Some}
+use Rattle.std.proofs.Common.{ℕ, ◌≡◌, ◌+◌, ◌%◌, ◌<◌, ◌≤◌, ◌∙◌, arith, refl, ap, List, [], true, false, length, get_or, set, replicate, mod-lt, Some}
 use Rattle.std.proofs.lemmas.Grind.{common_steps}
 use native.Mathlib.Decide.{ℕ_discrete}
 use Rattle.rules.specs.Kinds.{is_decl}
@@ -18,6 +18,10 @@ none-known n p = grind (arith, common_steps)
 -- no start is known at first
 pub starts-unknown : (rs : List Record) (n : ℕ) → SizeStarts rs (replicate n 65535)
 starts-unknown rs n = record { skips = λ p h. grind (arith, none-known n p) }
+
+-- no places are kept
+pub starts-empty : (rs : List Record) → SizeStarts rs []
+starts-empty rs = record { skips = λ p h. absurd (h refl) }
 
 -- one place known
 pub starts-one : (rs : List Record) (places : List ℕ) (q s : ℕ) → q < length places → SizeStarts rs places
