@@ -32,6 +32,10 @@ use Rattle.group_sizes.proofs.Fields.{here-start, here-next, size-next, size-end
 abbrev pub fields_from : (List ℕ → ℕ → List Inlined) → List Record → List ℕ → ℕ → List Inlined
 fields_from e rs env p = inlined_fields e rs env p (length rs - p)
 
+-- what is right as far as 1,601 of two parts is so of both
+pub min-sum : (a b c d : ℕ) → min 1601 a ≡ min 1601 c → min 1601 b ≡ min 1601 d → min 1601 (a + b) ≡ min 1601 (c + d)
+min-sum a b c d h g = omega arith
+
 -- ---- declarations and the places after them
 
 module _ (rs : List Record) where
