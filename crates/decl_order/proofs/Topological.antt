@@ -15,6 +15,20 @@ use Rattle.decl_visits.specs.Contract.{unvisited_count}
 use Rattle.decl_order.proofs.Reachability.{Reaches, one, step, TopologicalOrder, Faultless}
 use Rattle.decl_visits.proofs.Growth.{unvisited-set, unvisited-opened, unvisited-all}
 
+-- ---- what a reference is
+
+pub follow-inj : {x y : ℕ} → Follow x ≡ Follow y → x ≡ y
+follow-inj e = cc
+
+pub follow-wrong : {x c p : ℕ} → Wrong c p ≡ Follow x → ⊥
+follow-wrong e = let z : ◌≡◌ {A = ℕ} 0 1 = cc in omega arith
+
+pub follow-nowhere : {x : ℕ} → Follow x ≡ Nowhere → ⊥
+follow-nowhere e = let z : ◌≡◌ {A = ℕ} 0 1 = cc in omega arith
+
+pub wrong-nowhere : {c p : ℕ} → Wrong c p ≡ Nowhere → ⊥
+wrong-nowhere e = let z : ◌≡◌ {A = ℕ} 0 1 = cc in omega arith
+
 -- ---- faults are only ever added
 
 snoc-nil : (l : List PlaceFault) (x : PlaceFault) → (l ++ (x ∷ [])) ≡ [] → ⊥
