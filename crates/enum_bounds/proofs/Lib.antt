@@ -1,1 +1,2 @@
 pub mod Splits
+pub mod Counts

@@ -5,6 +5,7 @@ use mathlib.Core.Path.{◌≡◌}
 use mathlib.Core.List.{List, [], ◌∷◌}
 use mathlib.Core.Bool.{Bool, true, false}
 use native.Mathlib.Omega.{arith}
+use borrow.Author.Tests.{leb-true, le-leb}
 use Rattle.std.proofs.lemmas.Grind.{common_steps}
 use native.Mathlib.Nat.{not-suc-le-zero}
 use lib.ListN.{length, take}
@@ -12,6 +13,9 @@ use Rattle.std.specs.List.{count_by}
 use Rattle.std.specs.List.Sorted.{IsPartitionPoint}
 use Rattle.std.proofs.lemmas.List.Sums.{sum_by-cons}
 use Rattle.enum_bounds.specs.Bounds.{holders}
+
+pub leb-trans : (x y z : ℕ) → leb x y ≡ true → leb y z ≡ true → leb x z ≡ true
+leb-trans x y z h g = le-leb x z (omega (arith, leb-true x y h, leb-true y z g))
 
 -- the test holds for those before k, and for none from k on
 abbrev pub SplitsAt : {X : Type 0} → (X → Bool) → List X → ℕ → Type 0
