@@ -15,7 +15,7 @@ use Rattle.rules.specs.declared.Record.{Record}
 use Rattle.store.proofs.Laws.{length-encode, length-written, written-more}
 use Rattle.table.proofs.Laws.{each_more}
 use Rattle.flag_sizes.proofs.Laws.{desugared-cases}
-use Rattle.flag_table.specs.RecordsAppended.{put}
+use Rattle.flag_table.specs.RecordsAppended.{put, RecordsAppended, RoomForRecords}
 
 encode-append : (xs ys : List Record) → encode (xs ++ ys) ≡ encode xs ++ encode ys
 unfolding encode
@@ -41,6 +41,16 @@ module _ (b : List ℕ) (c : ℕ) where
       let l = length-encode xs in
       let k : 40 * d ≡ 40 * c + length (encode xs) = omega arith in
       rw (k, written-more b (encode xs) (encode ys) (40 * c) (omega arith), encode-append xs ys)
+
+-- room for records is room for the first of them, and then for the others
+pub room-front : (b : List ℕ) (c : ℕ) (xs ys : List Record) → RoomForRecords b c (xs ++ ys) → RoomForRecords b c xs
+room-front b c xs ys m = omega (arith, length-append xs ys, m)
+
+pub room-rest : (b : List ℕ) (c : ℕ) (xs : List Record) {b₁ : List ℕ} {c₁ : ℕ} → RecordsAppended b c xs b₁ c₁ → (ys : List Record) → RoomForRecords b c (xs ++ ys) → RoomForRecords b₁ c₁ ys
+room-rest b c xs p ys m =
+    let l = length-append xs ys in
+    let n = ap length p.0 ∙ length-put b c xs (omega arith) in
+    omega (arith, p.1)
 
 -- calls that gave xs and then nothing gave all that was left
 yielded : {S A : Type 0} (rest : S → List A) (s t : S) (xs : List A) → Yields (YieldsFirst rest) s xs t → rest s ≡ xs ++ rest t
