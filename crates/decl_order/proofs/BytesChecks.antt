@@ -12,8 +12,8 @@ use Rattle.rules.specs.Ordering.{Accepts}
 use Rattle.rules.specs.declared.Record.{Record}
 use Rattle.decl_visits.specs.declared.VisitProgress.{VisitProgress}
 use Rattle.std.specs.Prelude.{Ok, Err}
-use Rattle.decl_visits.specs.Contract.{StateHeld}
-use Rattle.decl_visits.proofs.Loop.{order-read}
+use Rattle.decl_visits.specs.Contract.{started, StateHeld}
+use Rattle.decl_visits.proofs.Loop.{places-started, order-read}
 use Rattle.decl_order.specs.Bytes.{all_bytes, BytesPlaced, BytesChecked}
 use Rattle.decl_order.proofs.Promise.{listed-declared}
 use Rattle.decl_order.proofs.ListedBytes.{all-decode}
@@ -34,9 +34,9 @@ module _ (t : List ℕ) (a : Accepts (decode t)) where
   ordered-length = all-length t (order (decode t)) listed_in
 
 -- what the visits leave
-module _ (t : List ℕ) {rs : List Record} (is : rs ≡ decode t) {f₀ f : List ℕ} {a : VisitProgress} (h₀ : StateHeld rs f₀ (visited rs) a f) where
-  held : StateHeld (decode t) f₀ (visited (decode t)) a f
-  held = subst (λ (x : List Record). StateHeld x f₀ (visited x) a f) is h₀
+module _ (t : List ℕ) {rs : List Record} (is : rs ≡ decode t) {o : VisitProgress} {f₀ f : List ℕ} {a : VisitProgress} (h₀ : StateHeld rs o f₀ (visited rs) a f) where
+  held : StateHeld (decode t) o f₀ (visited (decode t)) a f
+  held = subst (λ (x : List Record). StateHeld x o f₀ (visited x) a f) is h₀
 
   pub bytes-faulty : (out : List ℕ) → 0 < a.tally.total → BytesChecked t f₀ out f out (Err a.tally)
   bytes-faulty out l = let r = ret-faulty _ held [] l in (r.0, r.1, refl)
@@ -45,19 +45,19 @@ module _ (t : List ℕ) {rs : List Record} (is : rs ≡ decode t) {f₀ f : List
     pub order-fits : a.listed ≤ 1600
     order-fits = listed-short _ held z few
 
-    module _ {l : List ℕ} (e : l ≡ take a.listed a.places) where
+    module _ {l : List ℕ} (i : o ≡ started) (e : l ≡ take a.listed a.places) where
       places_are : l ≡ order (decode t)
       unfolding order
-      places_are = e ∙ order-read (decode t) f₀ a f few held
+      places_are = e ∙ order-read (decode t) o f₀ a f (rw (i, places-started) few) few held
 
       pub call-bytes : (out : List ℕ) → 40 * length (decode t) ≤ length out → BytesPlaced (decode t) l out
       call-bytes out w =
-          let p = call-copy _ held z few e (decode t) (omega arith) in
+          let p = call-copy _ held z few i e (decode t) (omega arith) in
           record { within = p.within; fits = omega (arith, p.fits) }
 
       pub ret-bytes : {out out' : List ℕ} {n : ℕ} → (n ≡ length (all_records (decode t) l)) × (out' ≡ written out 0 (all_bytes t l)) → BytesChecked t f₀ out f out' (Ok n)
       ret-bytes {out} {out'} {n} c =
-          let r = ret-copied _ held z few e {out = decode t} (c.0, refl) in
+          let r = ret-copied _ held z few i e {out = decode t} (c.0, refl) in
           let made : out' ≡ written out 0 (all_bytes t (order (decode t))) = rw places_are at c.1 in
           let count = r.2.count in (
             r.0,
