@@ -10,7 +10,7 @@ ghost use Rattle.faults.specs.Notes.{noted_all};
 
 use enum_bounds::RangeBounds;
 use enum_tags::{EnumTags, MarkedTags, TagPlace};
-use repeats::marks::{Compared, marks_of};
+use repeats::marks::{Compared, mark};
 use rules::limits::MOST_RECORDS;
 use rules::{Record, Tally};
 use table::Table;
@@ -102,8 +102,10 @@ fn has_enum(table: &[Record]) -> bool
 fn check_all(table: Table, buffer: &mut [u8]) -> Tally
     ensures { log result buffer.new ≡ logged buffer.old (pass4 table.entry.records.now) }
 {
-    let names = marks_of(table.records, Compared::TagNames);
-    let values = marks_of(table.records, Compared::TagValues);
+    let mut names = [true; MOST_RECORDS];
+    mark(table.records, Compared::TagNames, &mut names);
+    let mut values = [true; MOST_RECORDS];
+    mark(table.records, Compared::TagValues, &mut values);
     let mut room = Room {
         places: [0; MOST_RECORDS],
         lows: [0; MOST_RECORDS],

@@ -18,7 +18,7 @@ use declarations::Names;
 use declarations::starts::large;
 use faults::notes::note_found;
 use payload_fields::parents::ParentMarks;
-use repeats::marks::{Compared, Marks, marks_of};
+use repeats::marks::{Compared, Marks, mark};
 use rules::limits::MOST_RECORDS;
 use rules::{Fault, Record, Tally};
 use size_fields::Sizes;
@@ -87,7 +87,9 @@ pub fn check_field_identifiers(table: &[Record], buffer: &mut [u8]) -> Tally
     if large(table).is_none() {
         return field_identifiers::check_field_identifiers(&Marks::new(table, what), buffer);
     }
-    let marks = &marks_of(table, what);
+    let mut marks = [true; MOST_RECORDS];
+    mark(table, what, &mut marks);
+    let marks = &marks;
     field_identifiers::check_field_identifiers(&Marks { table, what, marks }, buffer)
 }
 
@@ -108,8 +110,10 @@ fn sizes(sizes: Sizes, buffer: &mut [u8]) -> Tally
 fn marked_sizes(table: Table, buffer: &mut [u8]) -> Tally
     ensures { log result buffer.new ≡ logged buffer.old (pass5 table.entry.records.now) }
 {
-    let repeated = marks_of(table.records, Compared::Sizes);
-    let elements = marks_of(table.records, Compared::ElementSizes);
+    let mut repeated = [true; MOST_RECORDS];
+    mark(table.records, Compared::Sizes, &mut repeated);
+    let mut elements = [true; MOST_RECORDS];
+    mark(table.records, Compared::ElementSizes, &mut elements);
     let mut starts = [NO_PLACE; MOST_RECORDS];
     size_fields::starts::fill(table, &mut starts);
     let known = Sizes {

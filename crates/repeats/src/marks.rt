@@ -3,7 +3,6 @@ ghost use Rattle.std.specs.Prelude.{◌≡◌, ◌≤◌, length, get_or, true};
 ghost use Rattle.repeats.specs.Marks.{selects, compared_of, target_of, Marked};
 ghost use Rattle.std.proofs.Props.{props};
 
-use rules::limits::MOST_RECORDS;
 use rules::{Record, Target};
 use table::{DIVISOR, REMAINDERS, Table};
 
@@ -126,14 +125,14 @@ fn mark_places(table: Table, what: Compared, seen: &mut [u16], marks: &mut [bool
     }
 }
 
-// The marks of a table, with room for the longest. In one that is too long each record may repeat one, and no stamps are cleared for it.
-pub fn marks_of(table: &[Record], what: Compared) -> [bool; MOST_RECORDS]
-    ensures { Marked table.now what result }
+// Clears the marks of the records that repeat none, among marks that are all true at first. A table that is too long keeps its own, and no stamps
+// are cleared for it. The marks are lent, as an array that is answered would be copied by a call of memcpy.
+pub fn mark(table: &[Record], what: Compared, marks: &mut [bool])
+    requires { (1600 ≤ length marks.old) × Marked table.now what marks.old }
+    ensures { Marked table.now what marks.new }
 {
-    let mut marks = [true; MOST_RECORDS];
     if let Some(table) = Table::new(table) {
         let mut seen = [0u16; REMAINDERS];
-        mark_places(table, what, &mut seen, &mut marks);
+        mark_places(table, what, &mut seen, marks);
     }
-    marks
 }
