@@ -1,11 +1,12 @@
 -- The records of a declaration, those of listed declarations, and the loop that copies them. Assumes nothing.
 use Rattle.std.proofs.Common.{take_all, drop-drop}
+use Rattle.std.proofs.lemmas.List.{set_at, take_more, drop_more}
 use Rattle.std.proofs.lemmas.Grind.{common_steps}
 use mathlib.Core.Path.{◌≡◌, refl, ◌∙◌, ap}
-use mathlib.Core.List.{List, [], ◌∷◌, ◌++◌, append-nil}
+use mathlib.Core.List.{List, [], ◌∷◌, ◌++◌, append-nil, append_assoc}
 use Prim.Native.Nat.{ℕ, ◌+◌, ◌<◌, ◌≤◌}
 use native.Mathlib.Omega.{arith}
-use lib.ListN.{length, get_or, take, drop, length-append, length-drop, take-append-drop}
+use lib.ListN.{length, get_or, set, take, drop, length-append, length-drop, take-append-drop}
 use lib.Seq.{length-take-le}
 use Rattle.rules.specs.Places.{member_count}
 use Rattle.rules.specs.DeclIdentifiers.{decl_records, all_records}
@@ -35,7 +36,14 @@ pub records-snoc : (rs : List Record) (l : List ℕ) (d : ℕ) → all_records r
 unfolding all_records
 records-snoc rs l d = all_records-append rs l (d ∷ []) ∙ ap (λ (y : List Record). all_records rs l ++ y) (append-nil (decl_records rs d))
 
--- ---- the loop that copies
+-- ---- the loops that copy
+
+-- one record more is copied
+pub copied-more : (rs out : List Record) (i : ℕ) (d : Record) → i < length rs → length rs ≤ length out
+    → set (take i rs ++ drop i out) i (get_or rs i d) ≡ take (i + 1) rs ++ drop (i + 1) out
+copied-more rs out i d l f =
+    let at = set_at (take i rs) (get_or out i d) (drop (i + 1) out) (get_or rs i d) i (length-take-le i rs (omega arith)) in
+    rw (drop_more out i d (omega arith), take_more rs i d l, append_assoc) at
 
 -- the declarations at the first i places are copied
 pub record Copied (rs : List Record) (places : List ℕ) (out₀ out : List Record) (count i : ℕ) : Type 0 where

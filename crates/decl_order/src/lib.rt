@@ -13,6 +13,16 @@ use declarations::starts::large;
 use rules::{Record, Tally};
 use table::{NO_PLACE, REMAINDERS, Table};
 
+// Copies records, as `copy_from_slice`, which calls memmove: the static library asks C for memset alone.
+fn copy(records: &[Record], out: &mut [Record])
+    requires { length records.now ≡ length out.old }
+    ensures { out.new ≡ records.now }
+{
+    for (place, r) in records.iter().enumerate() {
+        out[place] = *r;
+    }
+}
+
 // Copies the records of the declarations at these places to the start of out. Returns how many records they are.
 fn copy_listed(table: &[Record], places: &[u16], out: &mut [Record]) -> usize
     requires { Placed table.now places.now out.old }
@@ -22,7 +32,7 @@ fn copy_listed(table: &[Record], places: &[u16], out: &mut [Record]) -> usize
     for place in places {
         let d = usize::from(*place);
         let m = 1 + search::members::member_count(table, d);
-        out[count..count + m].copy_from_slice(&table[d..d + m]);
+        copy(&table[d..d + m], &mut out[count..count + m]);
         count += m;
     }
     count

@@ -9,13 +9,13 @@ loop-place-init c = copy_start _ _ _
 pub member_count-m-requires : goal.member_count-m-requires
 member_count-m-requires c = place_at _ _ _ c.requires c.from-d.ensures c.loop-place-test.true
 
-pub slice_bounds-copy_from_slice-end : goal.slice_bounds-copy_from_slice-end
-slice_bounds-copy_from_slice-end c =
+pub slice_bounds-copy-end-in-loop-place : goal.slice_bounds-copy-end-in-loop-place
+slice_bounds-copy-end-in-loop-place c =
     omega (arith, copy-fits _ _ _ c.requires c.loop-place.invariant c.loop-place-test.true c.from-d.ensures c.member_count-m.ensures.0)
 
 pub loop-place-preserved : goal.loop-place-preserved
 loop-place-preserved c =
-    copy-turn _ _ _ c.requires c.loop-place.invariant c.loop-place-test.true c.from-d.ensures c.member_count-m.ensures.0 c.copy_from_slice.ensures.after (omega arith) (omega arith)
+    copy-turn _ _ _ c.requires c.loop-place.invariant c.loop-place-test.true c.from-d.ensures c.member_count-m.ensures.0 c.copy.ensures (omega arith) (omega arith)
 
 pub returns : goal.returns
 returns c = copy-end _ _ _ c.requires c.loop-place.invariant c.loop-place-test.false
