@@ -24,15 +24,22 @@ fn check_in<const N: usize>(input: &[u8], table: &mut [u8], faults: &mut [u8]) -
     check_passes(input, &mut listed, table, faults)
 }
 
+// A length of buffers between those for a small table and for the longest, as to clear the latter takes most of the time of a table of 65 tests.
+const SOME_RECORDS: usize = 400;
+
 // The passes with buffers as large as the table needs.
 fn check_table(input: &[u8], table: &mut [u8], faults: &mut [u8]) -> Reply
     requires { length (decode input.now) ≤ 1600 }
     ensures { answered result table.new faults.new ≡ by_passes (decode input.now) table.old faults.old }
 {
-    if FEW_RECORDS < records::count(input) {
-        return check_in::<MOST_RECORDS>(input, table, faults);
+    let count = records::count(input);
+    if count <= FEW_RECORDS {
+        return check_in::<FEW_RECORDS>(input, table, faults);
     }
-    check_in::<FEW_RECORDS>(input, table, faults)
+    if count <= SOME_RECORDS {
+        return check_in::<SOME_RECORDS>(input, table, faults);
+    }
+    check_in::<MOST_RECORDS>(input, table, faults)
 }
 
 // Analyzes a table: the reply, the accepted table at the start of one buffer or the first faults in the other.
