@@ -1,10 +1,10 @@
 // Pass 5, `check_size_fields`: Size, Count and ElementSize fields that repeat a name, and those that name no array.
 #![tactic(auto)]
 
-mod duplicates;
+pub mod duplicates;
 mod matches;
 pub mod starts;
-mod targets;
+pub mod targets;
 
 ghost use Rattle.std.specs.Prelude.{◌≡◌};
 ghost use Rattle.std.specs.Option.{option_to_list};
