@@ -4,16 +4,16 @@ use native.Mathlib.Omega.{arith}
 use mathlib.Core.Path.{refl, ◌∙◌}
 use Rattle.rules.specs.EnumDeclarations.{pass4}
 use Rattle.faults.specs.Notes.{no_faults}
-use Rattle.repeats.proofs.marks.Laws.{marked_all}
+use Rattle.repeats.proofs.marks.Laws.{marked-all}
 use Rattle.faults.proofs.Laws.{noted-start, noted-place, noted-end, noted-logged, each-total}
 use Rattle.enum_declarations.proofs.Laws.{place-few}
 use Rattle.enum_declarations.proofs.check_all.Goals as goal
 
 pub mark-requires : goal.mark-requires
-mark-requires c = (search rules, marked_all _ _ 1600)
+mark-requires c = (search rules, marked-all _ _ 1600)
 
 pub mark-requires-2 : goal.mark-requires-2
-mark-requires-2 c = (search rules, marked_all _ _ 1600)
+mark-requires-2 c = (search rules, marked-all _ _ 1600)
 
 pub loop-d-init : goal.loop-d-init
 loop-d-init c = rw c.no_faults-tally.ensures (noted-start _ _)

@@ -73,5 +73,5 @@ marked-one rs what marks p m h = record { clear = λ q e. let z = m.clear q in g
 true-everywhere : (n p : ℕ) → get_or (replicate n true) p true ≡ true
 true-everywhere n p = grind (arith, common_steps)
 
-pub marked_all : (rs : List Record) (what : Compared) (n : ℕ) → Marked rs what (replicate n true)
-marked_all rs what n = record { clear = λ p e. false-true (sym e ∙ true-everywhere n p) }
+pub marked-all : (rs : List Record) (what : Compared) (n : ℕ) → Marked rs what (replicate n true)
+marked-all rs what n = record { clear = λ p e. false-true (sym e ∙ true-everywhere n p) }
