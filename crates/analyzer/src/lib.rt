@@ -24,7 +24,7 @@ fn check_in<const N: usize>(input: &[u8], table: &mut [u8], faults: &mut [u8]) -
     check_passes(input, &mut listed, table, faults)
 }
 
-// A length of buffers between those for a small table and for the longest, as to clear the latter takes most of the time of a table of 65 tests.
+// A length of buffers between those for a small table and for the longest, as to clear the latter takes half of the time of a table of 65 tests.
 const SOME_RECORDS: usize = 400;
 
 // The passes with buffers as large as the table needs.
