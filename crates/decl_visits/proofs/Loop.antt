@@ -19,9 +19,9 @@ use Rattle.rules.specs.declared.Reference.{Reference}
 use Rattle.faults.specs.Notes.{no_faults}
 use Rattle.faults.proofs.Laws.{noted-none}
 use Rattle.decl_visits.specs.declared.VisitProgress.{VisitProgress}
-use Rattle.decl_visits.specs.Contract.{unvisited_count, unvisited_in, started, StateHeld, VisitReady, Within, taken_up, Visited}
+use Rattle.decl_visits.specs.Contract.{unvisited_count, unvisited_in, started, StateHeld, VisitReady, Within, taken_up}
 use Rattle.decl_visits.proofs.Growth.{unvisited-all, walk-growth, visit-growth, references-length}
-use Rattle.decl_visits.proofs.VisitReady.{relax, after, visit-grows, within-root, root-nowhere}
+use Rattle.decl_visits.proofs.VisitReady.{StepsFrom, relax, after, visit-grows, within-root, root-nowhere}
 
 unvisited-few : (l : List ℕ) {n : ℕ} → length l ≡ n → unvisited_count l < suc n
 unfolding unvisited_count
@@ -86,13 +86,13 @@ module _ (rs : List Record) {o : VisitProgress} {f₀ : List ℕ} {a : VisitProg
     pub loop-call : Within (length rs) r × VisitReady rs a f 1 0
     loop-call = (rw e (within-root rs p l), relax rs h.ready (omega arith) (omega arith))
 
-    pub loop-turn : (a' : VisitProgress) (f' : List ℕ) → Visited rs r a f a' f' → Turn rs o f₀ a' f' (p + 1)
+    pub loop-turn : (a' : VisitProgress) (f' : List ℕ) → StepsFrom rs o (taken_up rs r) a f a' f' → Turn rs o f₀ a' f' (p + 1)
     unfolding walk root_references relax after
     loop-turn a' f' v =
         let n : unvisited_in rs a < suc (length rs) = rw h.ready.held.marks_are (unvisited-few h.ready.state.marks h.ready.size) in
         let z : length rs - p ≡ suc (length rs - (p + 1)) = omega arith in
         record {
-          ready = after rs (length rs - (p + 1)) (relax rs h.ready (omega arith) (omega arith)) (taken_up rs r) (visit-grows rs h.ready.few r) v (suc (length rs)) n;
+          ready = after rs (length rs - (p + 1)) (relax rs h.ready (omega arith) (omega arith)) (taken_up rs r) (visit-grows rs h.ready.few r) (rw h.from v) (suc (length rs)) n;
           from = h.from;
           began = h.began;
           rest = rw e (rw z at h.rest);
@@ -100,7 +100,7 @@ module _ (rs : List Record) {o : VisitProgress} {f₀ : List ℕ} {a : VisitProg
 
   -- only a declaration refers to anything
   pub loop-skip : p < length rs → is_decl (at rs p).kind ≡ false → Turn rs o f₀ a f (p + 1)
-  loop-skip l e = loop-turn l (root-nowhere rs p e) a f (λ k _ g₀ s n i. i)
+  loop-skip l e = loop-turn l (root-nowhere rs p e) a f (λ k g₀ s n i. i)
 
 -- no more places are listed than the table has
 pub order-short : (rs : List Record) → length rs ≤ 1600 → length (visited rs).order ≤ length rs

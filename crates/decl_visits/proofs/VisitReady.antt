@@ -23,7 +23,7 @@ use Rattle.faults.specs.Notes.{no_faults}
 use Rattle.faults.proofs.Laws.{noted-then, noted_one, total-after}
 use Rattle.table.proofs.Laws.{first-in, same-default}
 use Rattle.decl_visits.specs.declared.VisitProgress.{VisitProgress}
-use Rattle.decl_visits.specs.Contract.{unvisited_count, unvisited_in, listing, Noted, StateHeld, VisitReady, Within, Steps, taken_up, walked, Visited, Walked}
+use Rattle.decl_visits.specs.Contract.{unvisited_count, unvisited_in, listing, Noted, StateHeld, VisitReady, Within, taken_up, walked, Visited, Walked}
 use Rattle.decl_visits.proofs.Growth.{Growth, unvisited-opened, resolve-growth, walk-growth, visit-growth, fields-one, fields-decl, fields-past, fields-length, references-length}
 
 -- ---- how each step of the code changes the state that is held
@@ -101,6 +101,10 @@ module _ (rs : List Record) (few : length rs ≤ 1600) where
   walk-grows : (p k : ℕ) (s : State) → Growth s (walked rs p k s) (length (field_references rs p (length rs - p)))
   walk-grows p k s = walk-growth (visit k (references rs)) (visits-grow k) (field_references rs p (length rs - p)) s
 
+-- as `Steps`, where the progress was o before the visits
+abbrev pub StepsFrom : List Record → VisitProgress → (ℕ → State → State) → VisitProgress → List ℕ → VisitProgress → List ℕ → Type 0
+StepsFrom rs o g a f a' f' = (k : ℕ) (f₀ : List ℕ) (s : State) → unvisited_in rs a < k → StateHeld rs o f₀ s a f → StateHeld rs o f₀ (g k s) a' f'
+
 module _ (rs : List Record) {a : VisitProgress} {f : List ℕ} where
   unfoldable pub relax : {x y x' y' : ℕ} → VisitReady rs a f x y → x' ≤ x → y' ≤ y → VisitReady rs a f x' y'
   relax h p q = record {
@@ -118,9 +122,9 @@ module _ (rs : List Record) {a : VisitProgress} {f : List ℕ} where
   note-fits h = let t = held-total rs h.held in let s = h.spare in omega arith
 
   -- after a step g, by which the faults grow by z at most
-  module _ (x : ℕ) {y z : ℕ} (h : VisitReady rs a f (x + z) y) {a' : VisitProgress} {f' : List ℕ} (g : ℕ → State → State) (grows : (k : ℕ) (s : State) → Growth s (g k s) z) (v : Steps rs g a f a' f') (k : ℕ) (n : unvisited_in rs a < k) where
+  module _ (x : ℕ) {y z : ℕ} (h : VisitReady rs a f (x + z) y) {a' : VisitProgress} {f' : List ℕ} (g : ℕ → State → State) (grows : (k : ℕ) (s : State) → Growth s (g k s) z) (v : StepsFrom rs h.origin g a f a' f') (k : ℕ) (n : unvisited_in rs a < k) where
     pub falls : unvisited_in rs a' ≤ unvisited_in rs a
-    falls = rw (h.held.marks_are, (v k h.origin h.buffer₀ h.state n h.held).marks_are) (grows k h.state).falls
+    falls = rw (h.held.marks_are, (v k h.buffer₀ h.state n h.held).marks_are) (grows k h.state).falls
 
     unfoldable pub after : VisitReady rs a' f' x y
     after =
@@ -133,7 +137,7 @@ module _ (rs : List Record) {a : VisitProgress} {f : List ℕ} where
           state = g k h.state;
           origin = h.origin;
           buffer₀ = h.buffer₀;
-          held = v k h.origin h.buffer₀ h.state n h.held;
+          held = v k h.buffer₀ h.state n h.held;
           few = h.few;
           size = b.size ∙ h.size;
           room = omega arith;
@@ -195,10 +199,10 @@ module _ (rs : List Record) {a : VisitProgress} {f : List ℕ} where
         fields-ready = let n = fields-length rs (d + 1) (length rs - (d + 1)) in let y = h.few in relax rs open-ready (omega arith) (omega arith)
 
         walked-falls : unvisited_in rs b ≤ unvisited_in rs (opening d a)
-        walked-falls = falls rs 1 fields-ready (walked rs (d + 1)) (walk-grows rs h.few (d + 1)) w (suc (unvisited_in rs (opening d a))) (omega arith)
+        walked-falls = falls rs 1 fields-ready (walked rs (d + 1)) (walk-grows rs h.few (d + 1)) (λ k. w k _) (suc (unvisited_in rs (opening d a))) (omega arith)
 
         walked-ready : VisitReady rs b g 1 1
-        walked-ready = after rs 1 fields-ready (walked rs (d + 1)) (walk-grows rs h.few (d + 1)) w (suc (unvisited_in rs (opening d a))) (omega arith)
+        walked-ready = after rs 1 fields-ready (walked rs (d + 1)) (walk-grows rs h.few (d + 1)) (λ k. w k _) (suc (unvisited_in rs (opening d a))) (omega arith)
 
         module _ {q : Reference} (qe : q ≡ own_reference rs d) where
           pub call-own : {t : ℕ} → unvisited_in rs a * 3 ≡ t → (unvisited_in rs b * 3 + 1 < t) × (Within (length rs) q × VisitReady rs b g 1 0)
@@ -210,7 +214,7 @@ module _ (rs : List Record) {a : VisitProgress} {f : List ℕ} where
           module _ {c : VisitProgress} {o : List ℕ} (v : Visited rs q b g c o) where
             pub call-list : (d < 1600) × (c.listed < 1600)
             call-list =
-                let y = after rs 0 walked-ready (taken_up rs q) (visit-grows rs h.few q) v (suc (unvisited_in rs b)) (omega arith) in
+                let y = after rs 0 walked-ready (taken_up rs q) (visit-grows rs h.few q) (λ k. v k _) (suc (unvisited_in rs b)) (omega arith) in
                 let p = y.room in
                 let n = y.few in
                 let i = y.held.listed_is in
@@ -265,10 +269,10 @@ module _ (rs : List Record) {p q : ℕ} {a₀ : VisitProgress} {f₀ : List ℕ}
       unfolding walk
       walk-turn a' f' v =
           let h : VisitReady rs a f (length rs - (q + 1) + 1) 0 = relax rs i.ready (omega arith) (omega arith) in
-          let n = falls rs (length rs - (q + 1)) h (taken_up rs r) (visit-grows rs i.ready.few r) v (suc (unvisited_in rs a)) (omega arith) in
+          let n = falls rs (length rs - (q + 1)) h (taken_up rs r) (visit-grows rs i.ready.few r) (λ k. v k _) (suc (unvisited_in rs a)) (omega arith) in
           let n₀ = i.fewer in
           record {
-            ready = after rs (length rs - (q + 1)) h (taken_up rs r) (visit-grows rs i.ready.few r) v (suc (unvisited_in rs a)) (omega arith);
+            ready = after rs (length rs - (q + 1)) h (taken_up rs r) (visit-grows rs i.ready.few r) (λ k. v k _) (suc (unvisited_in rs a)) (omega arith);
             fewer = omega arith;
             rest = λ a₂ f₂ w. i.rest a₂ f₂ (λ k o g₀ s u j. rw (fields-one rs q l e, ← re) (w k o g₀ (taken_up rs r k s) (omega arith) (v k o g₀ s u j)));
           }

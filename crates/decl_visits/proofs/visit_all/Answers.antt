@@ -16,7 +16,7 @@ take_up-requires c = loop-call _ c.loop-p.invariant (omega arith) c.root_referen
 
 pub loop-p-preserved : goal.loop-p-preserved
 loop-p-preserved c =
-    loop-turn _ c.loop-p.invariant (omega arith) c.root_reference-r.ensures _ _ c.take_up.ensures
+    loop-turn _ c.loop-p.invariant (omega arith) c.root_reference-r.ensures _ _ (λ k. c.take_up.ensures k _)
 
 pub returns : goal.returns
 returns c = loop-end _ c.loop-p.invariant (omega arith)
